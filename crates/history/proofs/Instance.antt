@@ -7,21 +7,21 @@ use Rattle.sysreg.specs.Shape.{SameShape}
 use Rattle.sysreg.proofs.ShapeLaws.{shape-agrees}
 use Rattle.sysreg.specs.declared.regs.Control.{Control}
 use Rattle.sysreg.specs.declared.regs.El.TheVariants as El
-use Rattle.walk.specs.Regime.{regime_of, level_of, bank_of, stage1_on}
+use Rattle.walk.specs.Regime.{regime_of, own_level, bank_of, stage1_on}
 use Rattle.walk.proofs.TagLaws.{untagged-page}
 use Rattle.walk.proofs.WalkBounds.{leaf-bounds}
 use Rattle.walk.specs.PageLaws.{leaf_at}
 use Rattle.walk.proofs.PageLaws.{leaf-of-page}
 use Rattle.walk.specs.declared.regime.Regime.{Regime}
 use Rattle.walk.specs.declared.regime.Regime.TheVariants.{El1, El2, El3}
-use Rattle.tlb.specs.Step as Step
+use Rattle.tlb.specs.Translate as Translate
 use Rattle.tlb.specs.declared.access.Kind.{Kind}
 use Rattle.history.specs.World.{Laws, Plain, access_of}
 use Rattle.history.specs.Instance.{Ram, memory_of, real}
 
 -- A translation's access is the one that the contracts of `tlb` make of the regime's registers.
 pub access-is : (c : Plain real) (m : Ram) (k : Kind) (va : ℕ) →
-    access_of real c m k va ≡ Step.access_of (bank_of c.regs (regime_of c.privilege.level)) c.privilege va k (memory_of m)
+    access_of real c m k va ≡ Translate.access_of (bank_of c.regs (regime_of c.privilege.level)) c.privilege va k (memory_of m)
 access-is c m k va = refl
 
 shape_on : (R S : Control) → SameShape R S → (r : Regime) → stage1_on (bank_of R r) r ≡ stage1_on (bank_of S r) r
@@ -36,7 +36,7 @@ pub real-laws : Laws real
 real-laws =
     record {
       shape_on = λ R S e r. shape_on R S (shape-agrees R S e) r;
-      shape-untag = λ R S e r va. rw ((shape-agrees R S e).tcr (level_of r));
+      shape-untag = λ R S e r va. rw ((shape-agrees R S e).tcr (own_level r));
       untag-page = λ R r va vb e. untagged-page (bank_of R r).tcr r va vb e;
       leaf-level = λ R m r va ℓ e. (leaf-bounds (bank_of R r) r va (memory_of m) ℓ e).level-high;
       walk-page = λ R m r va vb p ℓ e. (

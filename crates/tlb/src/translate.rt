@@ -48,7 +48,7 @@ impl Tlb {
         if !a.bank.stage1_on(regime) {
             return Some(Ok(a.va));
         }
-        let va = walk::tag::untag(a.bank.tcr, regime, a.va);
+        let va = a.bank.untag(regime, a.va);
         if let Some(e) = self.get(access::tag_of(regime, va)) {
             self.count_hit(a.privilege.level);
             return Some(e.judge(a.privilege.is_user(regime, a.kind), a.kind, a.va));
@@ -66,7 +66,7 @@ impl Tlb {
             ≡ (walked_in (asked a (word_at base ram.now 8)).walk (asked a (word_at base ram.now 8)) self.old).after }
     {
         let regime = Regime::of_level(a.privilege.level);
-        let va = walk::tag::untag(a.bank.tcr, regime, a.va);
+        let va = a.bank.untag(regime, a.va);
         self.count_walk(a.privilege.level);
         let leaf = a.bank.walk(regime, va, base, ram).map_err(fault::first)?;
         let e = Entry::new(leaf, self.asid, access::tag_of(regime, va));
