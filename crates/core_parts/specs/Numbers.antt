@@ -1,7 +1,6 @@
 -- What is set and read, in numbers: PSTATE by an SPSR's word, and each part that has several words.
 use Rattle.std.specs.Prelude.{◌≡◌, ℕ, Bool, false, true, [], ◌∷◌, Some, None}
-use Rattle.exception.specs.Pstate.{spsr_of}
-use Rattle.exception.specs.Flags.{flags}
+use Rattle.exception.specs.Pstate.{spsr_of, flags}
 use Rattle.tlb.specs.declared.entry.Entry.{Entry}
 use Rattle.tlb.specs.declared.Inval.TheVariants.{All, Page, Asid}
 use Rattle.cpu.specs.declared.Core.{Core}
@@ -54,8 +53,8 @@ some_entry generation = record { tag = 11; generation = generation; perms = 13; 
 pub record EntryNumbers : Type 0 where
   pub words : entry_words (some_entry 12) ≡ (11 ∷ 12 ∷ 13 ∷ 3 ∷ 1 ∷ 16 ∷ 17 ∷ [])
   pub hint : hint_words (record { key = 21; pa = 22 }) ≡ (21 ∷ 22 ∷ [])
-  pub fetch_hint : fetch_words (record { some = true; page = 31; level = 3; pa = 32 }) ≡ (1 ∷ 31 ∷ 3 ∷ 32 ∷ [])
-  pub no_fetch_hint : fetch_words (record { some = false; page = 31; level = 3; pa = 32 }) ≡ (0 ∷ 31 ∷ 3 ∷ 32 ∷ [])
+  pub fetch_hint : fetch_words (Some (record { page = 31; level = 3; pa = 32 })) ≡ (1 ∷ 31 ∷ 3 ∷ 32 ∷ [])
+  pub no_fetch_hint : fetch_words None ≡ (0 ∷ 0 ∷ 0 ∷ 0 ∷ [])
   -- from generation 12 to 40
   pub live : moved 12 40 (some_entry 12) ≡ some_entry 40
   pub dead : entry_words (moved 12 40 (some_entry 40)) ≡ (0 ∷ 0 ∷ 0 ∷ 0 ∷ 0 ∷ 0 ∷ 0 ∷ [])

@@ -12,7 +12,8 @@ use Rattle.cpu.specs.declared.Core.{Core}
 use Rattle.operations.specs.Answers.{StoreAnswer}
 use Rattle.operations.specs.Check.{missed_of, first_of, unencoded}
 use Rattle.operations.specs.Replies.{storing}
-use Rattle.operations.specs.declared.{call.Call.Call, call.Encoding.Encoding, call.Reply.Reply}
+use Rattle.operations.specs.declared.{call.Call.Call, call.Reply.Reply}
+use Rattle.system.specs.declared.decode.Encoding.{Encoding}
 use Rattle.operations.specs.declared.call.Call.TheVariants.{Store, System}
 use Rattle.operations.specs.declared.call.Reply.TheVariants.{Done, Refused}
 use Rattle.cpu.specs.System.{zero_of, on_stored, sys_of, sys_by}

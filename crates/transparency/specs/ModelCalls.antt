@@ -73,7 +73,7 @@ pub record Modelled (list : List (Lent real machine)) (m : Ram) (x : Call) : Typ
   pub reply : outcome_of (core_after list) m x
       ≡ says_in (bare_after list) m (later_in (core_after list) m x) x (model_answers_after list m x)
   pub after : live (tlb_after_call list m x) ≡ model_after_call list m x
-  pub counts : counters_of (tlb_after_call list m x) ≡ (model_after_call list m x)
+  pub counts : counters_of (tlb_after_call list m x) ≡ (model_after_call list m x).counts
   pub pending : pending_of (tlb_after_call list m x).broadcast ≡ (model_after_call list m x).pending
 
 abbrev pub every_call_modelled : Type 0
