@@ -1,20 +1,19 @@
 #![tactic(auto)]
-// The tool: traces on the proved core, its cache's counters by level, one translation step by step, a census of pages,
-// and the chord.
+//! The tool: traces on the proved core, its cache's counters by level, one translation step by step, a census of pages,
+//! and the chord.
 mod arguments;
-mod counters;
 mod pages;
 mod stop;
 mod translation;
 
 use census_report::report::Form;
+use counters_report::report;
 use std::alloc::Global;
 use std::io;
 use std::io::{BufWriter, IsTerminal, LineWriter, Write};
 use std::process::ExitCode;
 use std::rt::Files;
 use stop::Stop;
-use trace_core::machine::Machine;
 use trace_core::memory;
 use trace_file::run;
 
@@ -39,41 +38,20 @@ poke; leaves l-..; pokes p-..; parts w-.. Numbers are hexadecimal without 0x; # 
 bad line gets a message `a72: FILE:LINE:COLUMN: reason` on standard error, and nothing else happens.
 ";
 
-fn run_command<R: Files + AllocGlobal, W: Write>(
-    rt: &R,
-    out: &mut W,
-    words: &[String],
-) -> Result<(), Stop> {
-    match words {
-        [path] => {
-            let path = arguments::path(path.as_str())?;
-            let mut machine = Machine::new(rt.alloc())?;
-            run::run(rt, out, path, &mut machine)?;
-            Ok(())
-        }
-        _ => Err(Stop::Usage("run wants one TRACE")),
-    }
-}
-
-fn counters_command<R: Files + AllocGlobal, W: Write>(
-    rt: &R,
-    out: &mut W,
-    words: &[String],
-) -> Result<(), Stop> {
-    match words {
-        [path] => counters::show(rt, out, arguments::path(path.as_str())?),
-        _ => Err(Stop::Usage("counters wants one TRACE")),
-    }
-}
-
 fn walk_command<R: Files + AllocGlobal, W: Write>(
     rt: &R,
     out: &mut W,
     words: &[String],
 ) -> Result<(), Stop> {
     match words {
-        [path, rest @ ..] if 1 <= rest.len() && rest.len() <= 3 => {
-            translation::walk(rt, out, arguments::path(path.as_str())?, rest)
+        [path, address, rest @ ..] if rest.len() <= 2 => {
+            translation::walk(
+                rt,
+                out,
+                arguments::path(path.as_str())?,
+                address.as_str(),
+                rest,
+            )
         }
         _ => Err(Stop::Usage(
             "walk wants a TRACE and an ADDRESS, then a kind of access and a level if you like",
@@ -104,8 +82,17 @@ fn census_command<R: Files + AllocGlobal, W: Write>(
         Form::Plain
     };
     match words {
-        [path, rest @ ..] if 2 <= rest.len() && rest.len() <= 3 => {
-            pages::census(rt, out, arguments::path(path.as_str())?, rest, form)
+        [path, first, pages, rest @ ..] if rest.len() <= 1 => {
+            let path = arguments::path(path.as_str())?;
+            pages::census(
+                rt,
+                out,
+                path,
+                first.as_str(),
+                pages.as_str(),
+                rest.first(),
+                form,
+            )
         }
         _ => Err(Stop::Usage(
             "census wants a TRACE, a FIRST address and a number of PAGES, then a level and --svg if you like",
@@ -141,8 +128,12 @@ fn command<R: Files + AllocGlobal, W: Write>(
         return Err(Stop::NoCommand);
     };
     match name.as_str() {
-        "run" => run_command(rt, out, rest)?,
-        "counters" => counters_command(rt, out, rest)?,
+        "run" => run::run(rt, out, arguments::only_path(rest, "run wants one TRACE")?)?,
+        "counters" => {
+            let path = arguments::only_path(rest, "counters wants one TRACE")?;
+            let machine = run::silently(rt, path)?;
+            report::show(out, &machine.core.tlb.counts)?;
+        }
         "walk" => walk_command(rt, out, rest)?,
         "census" => census_command(rt, out, rest, terminal)?,
         "chord" => chord_command(rt.alloc(), out, rest)?,

@@ -1,4 +1,4 @@
-// What keeps a command from being carried out, and what is said of it on standard error.
+//! What keeps a command from being carried out, and what is said of it on standard error.
 ghost use Rattle.std.specs.Prelude.{◌≡◌};
 ghost use Rattle.std.specs.Process.{exit_status};
 ghost use Rattle.a72.specs.Status.{status_of};
@@ -12,7 +12,7 @@ use thiserror::Error;
 use trace_file::report;
 use trace_file::report::Trouble;
 
-// An argument that is no such thing.
+/// An argument that is no such thing.
 #[derive(Clone, Copy, Debug, Error)]
 pub enum Wrong {
     #[error("{0}: not a hexadecimal number of 64 bits")]
@@ -31,7 +31,7 @@ pub enum Wrong {
 pub enum Stop {
     #[error("no command")]
     NoCommand,
-    // a wrong call, and what is wrong with it
+    /// a wrong call, and what is wrong with it
     #[error("{0}")]
     Usage(&'static str),
     #[error(transparent)]
@@ -42,7 +42,7 @@ pub enum Stop {
     Census(#[from] Refused),
     #[error("the proved core lost a tone of the chord")]
     LostTone,
-    // standard output takes no more
+    /// standard output takes no more
     #[error("write: {0}")]
     Output(#[from] io::Error),
     #[error("out of memory")]
@@ -50,7 +50,7 @@ pub enum Stop {
 }
 
 impl Stop {
-    // The status that the tool ends with: 2 where the call is wrong, else 1.
+    /// The status that the tool ends with: 2 where the call is wrong, else 1.
     pub fn status(&self) -> ExitCode
         ensures { exit_status result ≡ status_of self.now }
     {
@@ -73,7 +73,7 @@ pub fn usage<W: Write>(out: &mut W) -> io::Result<()> {
     writeln!(out, "       a72 help | --version")
 }
 
-// The message; the path is that of the command's trace.
+/// The message; the path is that of the command's trace.
 pub fn show<W: Write>(out: &mut W, alloc: Global, path: &str, stop: Stop) -> io::Result<()> {
     match stop {
         Stop::NoCommand => usage(out),

@@ -1,21 +1,12 @@
-// `a72 walk TRACE ADDRESS [read|write|fetch] [LEVEL]`: a trace in silence, then one translation step by step.
+//! `a72 walk TRACE ADDRESS [read|write|fetch] [LEVEL]`: a trace in silence, then one translation step by step.
 use crate::arguments;
 use crate::stop::{Stop, Wrong};
 use core_calls::settings;
 use std::io::Write;
 use std::rt::Files;
 use tlb::access::Kind;
-use trace_core::machine::Machine;
 use trace_file::run;
 use walk_report::explain;
-
-// What is asked: the address, the kind, and a level where it is not the core's own.
-#[derive(Clone, Copy)]
-struct Question {
-    va: u64,
-    level: Option<u64>,
-    kind: Kind,
-}
 
 // The kind that an argument names; a read where it is not there.
 fn kind_of(word: Option<&String>) -> Result<Kind, Stop> {
@@ -30,28 +21,19 @@ fn kind_of(word: Option<&String>) -> Result<Kind, Stop> {
     }
 }
 
-// The arguments after the trace's path.
-fn asked(words: &[String]) -> Result<Question, Stop> {
-    let va = match words.first() {
-        Some(word) => arguments::named_number(word.as_str(), "ADDRESS")?,
-        None => 0,
-    };
-    let level = arguments::level(words.get(2))?;
-    let kind = kind_of(words.get(1))?;
-    Ok(Question { va, level, kind })
-}
-
 pub fn walk<R: Files + AllocGlobal, W: Write>(
     rt: &R,
     out: &mut W,
     path: &str,
-    words: &[String],
+    address: &str,
+    rest: &[String],
 ) -> Result<(), Stop> {
-    let q = asked(words)?;
-    let mut machine = Machine::new(rt.alloc())?;
-    run::silently(rt, path, &mut machine)?;
+    let va = arguments::named_number(address, "ADDRESS")?;
+    let level = arguments::level(rest.get(1))?;
+    let kind = kind_of(rest.first())?;
+    let mut machine = run::silently(rt, path)?;
     let core = &mut machine.core;
-    if let Some(level) = q.level {
+    if let Some(level) = level {
         settings::level(core, level);
     }
     explain::explain(
@@ -59,8 +41,8 @@ pub fn walk<R: Files + AllocGlobal, W: Write>(
         core,
         machine.base,
         machine.ram.as_mut_slice(),
-        q.kind,
-        q.va,
+        kind,
+        va,
     )?;
     Ok(())
 }

@@ -8,8 +8,8 @@ use Rattle.operations.specs.declared.{call.Call.Call, call.Reply.Reply}
 use Rattle.call_words.specs.declared.{op.DecodedCall.DecodedCall, op.DecodedException.DecodedException}
 use Rattle.walk.specs.declared.level.Leaf.{Leaf}
 use Rattle.walk.specs.declared.regime.Regime.TheVariants.{El1, El2, El3}
-use Rattle.call_words.specs.declared.tables.Named.{Named}
-use Rattle.call_words.specs.Walk.{regime_at, bank_at, leaf_after, code_of, walk_code}
+use Rattle.walk.specs.Regime.{regime_at}
+use Rattle.call_words.specs.Walk.{bank_at, leaf_after, code_of, walk_code}
 use Rattle.call_words.specs.Ops.{exception_of, call_of}
 use Rattle.call_words.specs.Replies.{code_by, value_by, words_by}
 
@@ -101,9 +101,9 @@ a_leaf = record { oa = 11; desc = 12; perms = 13; level = 3; global = true }
 
 -- regimes 1 to 3, the words of the registers and of a leaf, and the numbers
 pub record WalkCodes (words : List ℕ) (va : ℕ) : Type 0 where
-  pub el1 : regime_at 1 ≡ Named.Known El1
-  pub el2 : regime_at 2 ≡ Named.Known El2
-  pub el3 : regime_at 3 ≡ Named.Known El3
+  pub el1 : regime_at 1 ≡ Ok El1
+  pub el2 : regime_at 2 ≡ Ok El2
+  pub el3 : regime_at 3 ≡ Ok El3
   pub registers : bank_at (11 ∷ 12 ∷ 13 ∷ 14 ∷ 15 ∷ 16 ∷ []) ≡ record { sctlr = 11; tcr = 12; ttbr0 = 13; ttbr1_el1 = 14; scr_el3 = 15; hcr_el2 = 16 }
   pub leaf : leaf_after a_leaf ≡ (11 ∷ 12 ∷ 13 ∷ 3 ∷ 1 ∷ [])
   pub no_regime_0 : walk_code words 0 va 0 [] ≡ 64

@@ -1,18 +1,19 @@
 -- A call as eight words.
-use Rattle.std.specs.Prelude.{if◌then◌else◌, List, ℕ, ◌^◌, eqb, ltb, get_or, Bool, true, false}
+use Rattle.std.specs.Prelude.{if◌then◌else◌, List, ℕ, ◌^◌, eqb, ltb, get_or, Bool, true, false, Result, Ok, Err}
 use Rattle.fault.specs.First.{first}
-use Rattle.tlb.specs.declared.access.Kind.TheVariants.{Read, Write, Fetch}
+use Rattle.tlb.specs.Access.{kind_at}
+use Rattle.tlb.specs.declared.{access.Kind.Kind, access.NoSuchKind.NoSuchKind}
 use Rattle.exception.specs.Abort.{data_abort_at, insn_abort_at}
 use Rattle.exception.specs.declared.kind.Exception.{Exception}
 use Rattle.exception.specs.declared.kind.Exception.TheVariants.{Undefined, Svc, Hvc, Smc, Brk, PcAlignment}
 use Rattle.system.specs.declared.decode.Encoding.{Encoding}
 use Rattle.operations.specs.declared.call.Call.{Call}
-use Rattle.call_words.specs.declared.{op.DecodedKind.DecodedKind, op.DecodedException.DecodedException}
+use Rattle.call_words.specs.declared.op.DecodedException.{DecodedException}
 use Rattle.call_words.specs.declared.op.DecodedCall.{DecodedCall}
 
 -- 1 read, 2 write, 4 fetch
-abbrev pub kind_of : ℕ → DecodedKind
-kind_of n = if eqb n 1 then DecodedKind.Known Read else if eqb n 2 then DecodedKind.Known Write else if eqb n 4 then DecodedKind.Known Fetch else DecodedKind.Unknown
+abbrev pub kind_of : ℕ → Result Kind NoSuchKind
+kind_of n = kind_at n
 
 -- an exception whose words are in range
 abbrev pub in_range : Bool → Exception → DecodedException
@@ -55,9 +56,9 @@ exception_at e = exception_of (get_or e 0 0) (get_or e 1 0) (get_or e 2 0) (get_
 abbrev pub key_of : ℕ → ℕ
 key_of n = if ltb n (2 ^ 32) then n else 0
 
-unfoldable pub translate_call : DecodedKind → ℕ → DecodedCall
-translate_call (DecodedKind.Known k) va = DecodedCall.Known (Call.Translate k va)
-translate_call DecodedKind.Unknown va = DecodedCall.Unknown
+unfoldable pub translate_call : Result Kind NoSuchKind → ℕ → DecodedCall
+translate_call (Ok k) va = DecodedCall.Known (Call.Translate k va)
+translate_call (Err e) va = DecodedCall.Unknown
 
 abbrev pub abort_call : DecodedException → DecodedCall
 abort_call (DecodedException.Known e) = DecodedCall.Known (Call.Abort e)

@@ -1,18 +1,12 @@
 -- The walk over lent words.
-use Rattle.std.specs.Prelude.{if◌then◌else◌, Bool, List, [], ◌∷◌, ℕ, ◌+◌, eqb, get_or, length, Ok, Err}
+use Rattle.std.specs.Prelude.{if◌then◌else◌, Bool, List, [], ◌∷◌, ℕ, ◌+◌, get_or, length, Result, Ok, Err}
 use Rattle.word.specs.Bits.{flag}
 use Rattle.word.specs.Ram.{word_at}
 use Rattle.walk.specs.Walk.{walk_of}
-use Rattle.walk.specs.declared.{regime.Regime.Regime, regime.Bank.Bank, level.Leaf.Leaf}
-use Rattle.walk.specs.declared.regime.Regime.TheVariants.{El1, El2, El3}
+use Rattle.walk.specs.declared.{regime.Regime.Regime, regime.NoSuchRegime.NoSuchRegime, regime.Bank.Bank, level.Leaf.Leaf}
+use Rattle.walk.specs.Regime.{regime_at}
 use Rattle.operations.specs.Check.{passes}
-use Rattle.call_words.specs.declared.tables.Named.{Named}
-use Rattle.call_words.specs.declared.tables.Named.TheVariants.{Known, Unknown}
 use Rattle.walk.specs.Answers.{Walked}
-
--- regimes by number
-abbrev pub regime_at : ℕ → Named
-regime_at n = if eqb n 1 then Known El1 else if eqb n 2 then Known El2 else if eqb n 3 then Known El3 else Unknown
 
 -- SCTLR, TCR and TTBR0 of the regime, TTBR1_EL1, SCR_EL3, HCR_EL2
 abbrev pub bank_at : List ℕ → Bank
@@ -41,13 +35,13 @@ words_of (Err status) out = out
 abbrev pub walk_at : List ℕ → Regime → ℕ → ℕ → List ℕ → Walked
 walk_at ws r va base ram = walk_of (bank_at ws) r va (word_at base ram 8)
 
-abbrev pub code_in : Named → Bool → List ℕ → ℕ → ℕ → List ℕ → ℕ
-code_in Unknown past ws va base ram = 64
-code_in (Known r) past ws va base ram = if past then 2 else code_of (walk_at ws r va base ram)
+abbrev pub code_in : Result Regime NoSuchRegime → Bool → List ℕ → ℕ → ℕ → List ℕ → ℕ
+code_in (Err e) past ws va base ram = 64
+code_in (Ok r) past ws va base ram = if past then 2 else code_of (walk_at ws r va base ram)
 
-abbrev pub words_in : Named → Bool → List ℕ → ℕ → ℕ → List ℕ → List ℕ → List ℕ
-words_in Unknown past ws va base ram out = out
-words_in (Known r) past ws va base ram out = if past then out else words_of (walk_at ws r va base ram) out
+abbrev pub words_in : Result Regime NoSuchRegime → Bool → List ℕ → ℕ → ℕ → List ℕ → List ℕ → List ℕ
+words_in (Err e) past ws va base ram out = out
+words_in (Ok r) past ws va base ram out = if past then out else words_of (walk_at ws r va base ram) out
 
 -- 64 for a number that names no regime, 2 for a window that passes 2^64, 0 for a leaf, 256 plus a fault's status
 unfoldable pub walk_code : List ℕ → ℕ → ℕ → ℕ → List ℕ → ℕ

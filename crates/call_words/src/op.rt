@@ -11,12 +11,6 @@ use tlb::access::Kind;
 
 // What a word names, or nothing.
 #[derive(Clone, Copy)]
-pub enum DecodedKind {
-    Known(Kind),
-    Unknown,
-}
-
-#[derive(Clone, Copy)]
 pub enum DecodedException {
     Known(Exception),
     Unknown,
@@ -26,17 +20,6 @@ pub enum DecodedException {
 pub enum DecodedCall {
     Known(Call),
     Unknown,
-}
-
-pub fn kind_of(word: u64) -> DecodedKind
-    ensures { result ≡ kind_of word }
-{
-    match word {
-        1 => DecodedKind::Known(Kind::Read),
-        2 => DecodedKind::Known(Kind::Write),
-        4 => DecodedKind::Known(Kind::Fetch),
-        _ => DecodedKind::Unknown,
-    }
 }
 
 #[tactic(auto, unfolding(crate::specs::Ops::data_abort_of))]
@@ -133,9 +116,9 @@ pub fn words_of(e: Exception) -> [u64; 4]
 fn translate_of(kind: u64, va: u64) -> DecodedCall
     ensures { result ≡ translate_call (kind_of kind) va }
 {
-    match kind_of(kind) {
-        DecodedKind::Known(k) => DecodedCall::Known(Call::Translate(k, va)),
-        DecodedKind::Unknown => DecodedCall::Unknown,
+    match Kind::try_from(kind) {
+        Ok(kind) => DecodedCall::Known(Call::Translate(kind, va)),
+        Err(_) => DecodedCall::Unknown,
     }
 }
 

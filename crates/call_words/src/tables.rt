@@ -1,29 +1,11 @@
 // One walk of the tables, of registers and RAM that the caller lends. A number other than 0 writes no word of the leaf.
 ghost use Rattle.std.specs.Prelude.{◌≡◌, ◌+◌};
-ghost use Rattle.call_words.specs.Walk.{bank_at, regime_at, leaf_after, walk_code, walk_words};
+ghost use Rattle.call_words.specs.Walk.{bank_at, leaf_after, walk_code, walk_words};
 
 use operations::check;
 use walk::level::Leaf;
 use walk::regime::{Bank, Regime};
 use word::bits;
-
-// A regime by its number, or none.
-#[derive(Clone, Copy)]
-pub enum Named {
-    Known(Regime),
-    Unknown,
-}
-
-fn regime_at(number: u64) -> Named
-    ensures { result ≡ regime_at number }
-{
-    match number {
-        1 => Named::Known(Regime::El1),
-        2 => Named::Known(Regime::El2),
-        3 => Named::Known(Regime::El3),
-        _ => Named::Unknown,
-    }
-}
 
 // The six registers of a regime: SCTLR, TCR, TTBR0 of its own, TTBR1_EL1, SCR_EL3, HCR_EL2.
 fn bank_at(words: &[u64; 6]) -> Bank
@@ -67,9 +49,8 @@ pub fn walk_words(
     ensures { (result ≡ walk_code words.now number va base ram.now) ×
         (out.new ≡ walk_words words.now number va base ram.now out.old) }
 {
-    let named = regime_at(number);
-    match named {
-        Named::Known(regime) => {
+    match Regime::try_from(number) {
+        Ok(regime) => {
             let past = check::past_end(base, ram.len() as u64);
             if past {
                 return 2;
@@ -83,6 +64,6 @@ pub fn walk_words(
                 Err(status) => 256 + status as u64,
             }
         }
-        Named::Unknown => 64,
+        Err(_) => 64,
     }
 }

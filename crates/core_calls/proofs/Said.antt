@@ -1,12 +1,13 @@
 -- How a promise is met: by what the quick call says of its number, its word and its core.
-use Rattle.std.specs.Prelude.{if◌then◌else◌, ◌≡◌, eqb, List, ℕ, Bool, true, false}
+use Rattle.std.specs.Prelude.{if◌then◌else◌, ◌≡◌, eqb, List, ℕ, Bool, true, false, Result, Ok, Err}
 use Rattle.std.proofs.Common.{refl, sym}
 use Rattle.cpu.specs.declared.Core.{Core}
 use Rattle.operations.specs.declared.call.Call.{Call}
 use Rattle.cpu.specs.Step.{step_of, ram_after}
 use Rattle.cpu.specs.EveryCallEnds.{writes, quiet}
 use Rattle.call_words.specs.Ops.{translate_call, mark_call}
-use Rattle.call_words.specs.declared.{op.DecodedKind.DecodedKind, op.DecodedCall.DecodedCall}
+use Rattle.tlb.specs.declared.{access.Kind.Kind, access.NoSuchKind.NoSuchKind}
+use Rattle.call_words.specs.declared.op.DecodedCall.{DecodedCall}
 use Rattle.call_words.specs.declared.op.DecodedCall.TheVariants.{Known, Unknown}
 use Rattle.quick.specs.Says.{Tells, Nothing, Says, Sets}
 use Rattle.core_calls.specs.Promise.{Promise, Setting}
@@ -25,11 +26,11 @@ nothing : (base : ℕ) (ram : List ℕ) (c : Core) (n old v : ℕ) (d : Core) �
 nothing base ram c n old v d s =
     record { code = s.number; value = s.value; bytes = refl; core = s.core; unchanged = λ l h. (s.core, (refl, s.value)); faithful = tt }
 
-pub translation-said : (w : DecodedKind) (va base : ℕ) (ram : List ℕ) (c : Core) (n old v : ℕ) (d : Core) → Says (translate_call w va) c base ram old n v d
+pub translation-said : (w : Result Kind NoSuchKind) (va base : ℕ) (ram : List ℕ) (c : Core) (n old v : ℕ) (d : Core) → Says (translate_call w va) c base ram old n v d
     → Promise (translate_call w va) base ram c n old v ram d
 unfolding translate_call
-translation-said (DecodedKind.Known k) va base ram c n old v d s = read-told (Call.Translate k va) base ram c refl n old v d s
-translation-said DecodedKind.Unknown va base ram c n old v d s = nothing base ram c n old v d s
+translation-said (Ok k) va base ram c n old v d s = read-told (Call.Translate k va) base ram c refl n old v d s
+translation-said (Err e) va base ram c n old v d s = nothing base ram c n old v d s
 
 pub set-said : (x : Call) (c : Core) → writes c x ≡ false → (n : ℕ) (d : Core) → Sets (Known x) c n d → Setting (Known x) c n d
 set-said x c q n d s = record { on = λ base ram old. read-told x base ram c q n old old d (s.on base ram old) }

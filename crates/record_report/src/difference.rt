@@ -1,8 +1,8 @@
-// A word that is not what it should be.
+//! A word that is not what it should be.
 use std::fmt;
 
-// In which line of a record it was found, its place, what it is and what it should be. A word of an operation's line
-// has a name.
+/// In which line of a record it was found, its place, what it is and what it should be. A word of an operation's line
+/// has a name.
 #[derive(Clone, Copy)]
 pub struct Difference {
     pub line: u64,

@@ -1,11 +1,11 @@
-// The summary: each record, operations by kind and answer, cases by class.
+//! The summary: each record, operations by kind and answer, cases by class.
 use crate::tables;
-use crate::tables::{Answer, KINDS, Kind};
+use crate::tables::{Column, KINDS, Kind};
 use crate::tally::{ANSWERS, Tally};
 use std::io::Write;
 use std::{fmt, io};
 
-// What a record came to, or all of them: operations replayed and left out, cases, differences.
+/// What a record came to, or all of them: operations replayed and left out, cases, differences.
 #[derive(Clone, Copy, Default)]
 pub struct Counts {
     pub done: u64,
@@ -23,7 +23,7 @@ impl Counts {
     }
 }
 
-// A record's line.
+/// A record's line.
 impl fmt::Display for Counts {
     fn fmt<W: fmt::Write>(&self, f: &mut fmt::Formatter<W>) -> fmt::Result {
         let start = if self.wrong == 0 { ": " } else { "\n  " };
@@ -46,16 +46,16 @@ fn row<W: Write>(out: &mut W, kind: Kind, name: &str, counts: &[u64; ANSWERS]) -
     }
     write!(out, "{name} {sum}")?;
     let mut before = "  ";
-    for (class, n) in counts.iter().enumerate() {
+    for (place, n) in counts.iter().enumerate() {
         if *n != 0 {
-            write!(out, "{before}{} {n}", Answer { kind, class })?;
+            write!(out, "{before}{} {n}", Column { kind, place })?;
             before = ", ";
         }
     }
     writeln!(out)
 }
 
-// The whole summary of some records.
+/// The whole summary of some records.
 pub fn all<W: Write>(out: &mut W, records: u64, all: &Counts, tally: &Tally) -> io::Result<()> {
     writeln!(out, "\nRecorded answers, by operation:")?;
     for (kind, name) in KINDS {
@@ -67,14 +67,15 @@ pub fn all<W: Write>(out: &mut W, records: u64, all: &Counts, tally: &Tally) -> 
             writeln!(out, "{} {n}", tables::class_name(class))?;
         }
     }
+    let Counts {
+        done,
+        left,
+        cases,
+        wrong,
+    } = all;
     write!(
         out,
-        "\n{records} records, {} operations, {} left out",
-        all.done, all.left
+        "\n{records} records, {done} operations, {left} left out"
     )?;
-    writeln!(
-        out,
-        ", {} outside cases; differences {}",
-        all.cases, all.wrong
-    )
+    writeln!(out, ", {cases} outside cases; differences {wrong}")
 }

@@ -1,12 +1,17 @@
+<<<<<<< HEAD
 // Names of kinds of operation, of answers, and of classes of difference (outside/README.md).
 use operations::call::Call;
+=======
+//! Names of kinds of operation, of answers, and of classes of difference (outside/README.md).
+use operations::call::{Call, Encoding};
+>>>>>>> 5fea152f (Traces and records: an answer is an enum with its words and its text, numbers become enums by TryFrom, refusals by thiserror)
 use std::fmt;
 use system::decode::Encoding;
 use tlb::access::Kind as Access;
 use trace_text::line;
 use trace_text::line::Operation;
 
-// A kind of operation, in the order of the names.
+/// A kind of operation, in the order of the names.
 #[derive(Clone, Copy)]
 pub enum Kind {
     Abort,
@@ -32,6 +37,7 @@ pub enum Kind {
     General,
 }
 
+/// The kinds, each with its name.
 pub const KINDS: [(Kind, &str); 21] = [
     (Kind::Abort, "abort"),
     (Kind::Census, "census"),
@@ -89,6 +95,7 @@ impl Kind {
         }
     }
 
+    /// The kind of an operation.
     pub fn of(operation: &Operation) -> Kind {
         match operation {
             Operation::Call(call) => Kind::of_call(call),
@@ -139,14 +146,9 @@ const CLASSES: [&str; 26] = [
     "C8 hpd",
 ];
 
-// Name k of some, or "?" past the last.
-pub fn nth(names: &[&'static str], k: usize) -> &'static str {
-    names.get(k).copied().unwrap_or("?")
-}
-
-// The classes of outside/README.md, by number.
+/// The name of a class of outside/README.md, by its number.
 pub fn class_name(class: usize) -> &'static str {
-    nth(&CLASSES, class)
+    CLASSES.get(class).copied().unwrap_or("?")
 }
 
 // What a status is called: PAR's of an AT, a fault's of a translation or a walk, an abort's of an access.
@@ -159,21 +161,23 @@ fn status_word(kind: Kind) -> &'static str {
     }
 }
 
-// An answer of a kind of operation, by its place in the kind's row.
+/// What stands at a place of a kind's row.
 #[derive(Clone, Copy)]
-pub struct Answer {
+pub struct Column {
     pub kind: Kind,
-    pub class: usize,
+    pub place: usize,
 }
 
-impl fmt::Display for Answer {
+impl fmt::Display for Column {
     fn fmt<W: fmt::Write>(&self, f: &mut fmt::Formatter<W>) -> fmt::Result {
-        let class = self.class;
-        match class {
-            0..8 => f.write_str(nth(&ANSWERS, class)),
-            8..16 => write!(f, "no {}", class - 8),
-            16..80 => write!(f, "{} {:02x}", status_word(self.kind), class - 16),
-            _ => write!(f, "leaf {}", class % 4),
+        let place = self.place;
+        if let Some(name) = ANSWERS.get(place) {
+            return f.write_str(name);
+        }
+        match place {
+            0..16 => write!(f, "no {}", place % 8),
+            16..80 => write!(f, "{} {:02x}", status_word(self.kind), place - 16),
+            _ => write!(f, "leaf {}", place % 4),
         }
     }
 }

@@ -1,10 +1,15 @@
-// How often each operation gave each answer, and how often cases were of each class of difference.
+//! How often each operation gave each answer, and how often cases were of each class of difference.
 use crate::tables::{KINDS, Kind};
+use exception::kind::{Exception, Stop};
+use fault::Fault;
+use operations::call::Reply;
+use trace_text::answer::Answer;
 use trace_text::line::Operation;
 
-// Places of a kind's row, and classes of difference.
+/// Places of a kind's row.
 pub const ANSWERS: usize = 84;
 
+/// Classes of difference.
 pub const CLASSES: usize = 32;
 
 #[derive(Drop)]
@@ -13,10 +18,14 @@ pub struct Tally {
     cases: [u64; CLASSES],
 }
 
+fn status_place(fault: Fault) -> usize {
+    16 + usize::from(fault.fsc % 64)
+}
+
 // An AT that was carried out answers as PAR does.
-fn done_class(kind: Kind, par: u64) -> u64 {
+fn done_place(kind: Kind, par: u64) -> usize {
     match kind {
-        Kind::At if par % 2 == 1 => 16 + par / 2 % 64,
+        Kind::At if par & 1 == 1 => 16 + (par >> 1 & 63) as usize,
         Kind::At => 6,
         _ => 0,
     }
@@ -24,18 +33,22 @@ fn done_class(kind: Kind, par: u64) -> u64 {
 
 // The place of an answer in its row: ok 0, val 1, none 2, pair 3, undefined 4, unimplemented 5, PAR ok 6, counts 7,
 // numbers from 8, statuses from 16, leaves by level from 80.
-fn class_of(kind: Kind, ans: &[u64; 4], par: u64) -> u64 {
-    match ans[0] {
-        0 => done_class(kind, par),
-        1 => 1,
-        2 => 2,
-        3 => 80 + ans[2] / 256 % 4,
-        4 => 3,
-        5 => 8 + ans[1] % 8,
-        6 => 4,
-        7 => 5,
-        11 => 7,
-        _ => 16 + ans[2] % 64,
+fn place_of(kind: Kind, answer: Answer, par: u64) -> usize {
+    match answer {
+        Answer::Reply(Reply::Done) => done_place(kind, par),
+        Answer::Reply(Reply::Value(_)) => 1,
+        Answer::Reply(Reply::Faults) => 2,
+        Answer::Reply(Reply::Refused(number)) => 8 + usize::from(number % 8),
+        Answer::Reply(Reply::Fault { fault, .. }) => status_place(fault),
+        Answer::Reply(Reply::Stopped(Stop::Exception(e))) => match e {
+            Exception::DataAbort(a) => status_place(a.fault),
+            Exception::InsnAbort(a) => status_place(a.fault),
+            _ => 4,
+        },
+        Answer::Reply(Reply::Stopped(Stop::Unimplemented)) => 5,
+        Answer::Pair(..) => 3,
+        Answer::Counts { .. } => 7,
+        Answer::Leaf(leaf) => 80 + usize::from(leaf.level % 4),
     }
 }
 
@@ -51,26 +64,25 @@ impl Tally {
         }
     }
 
-    // An operation's answer, and PAR after it.
-    pub fn note(&mut self, operation: &Operation, ans: &[u64; 4], par: u64) {
+    /// An operation's answer, and PAR after it.
+    pub fn note(&mut self, operation: &Operation, answer: Answer, par: u64) {
         let kind = Kind::of(operation);
-        let class = class_of(kind, ans, par) as usize;
-        if let Some(n) = self.answers[kind as usize].get_mut(class) {
+        if let Some(n) = self.answers[kind as usize].get_mut(place_of(kind, answer, par)) {
             count(n);
         }
     }
 
-    // A case of a class of difference, 0 where there is none.
+    /// A case of a class of difference, 0 where there is none.
     pub fn note_case(&mut self, class: u64) {
         count(&mut self.cases[(class % 32) as usize]);
     }
 
-    // How often a kind gave each answer.
+    /// How often a kind gave each answer.
     pub fn row(&self, kind: Kind) -> &[u64; ANSWERS] {
         &self.answers[kind as usize]
     }
 
-    // How many cases were of each class.
+    /// How many cases were of each class.
     pub fn cases(&self) -> &[u64; CLASSES] {
         &self.cases
     }

@@ -1,12 +1,12 @@
-// Cases that another implementation answered: what the core must come to, and for a class of difference what it must
-// not.
+//! Cases that another implementation answered: what the core must come to, and for a class of difference what it must
+//! not.
 use crate::replay::Replay;
 use crate::stop::{Fault, Stop};
 use record_report::difference::Difference;
 use std::io;
 use std::io::Write;
-use word::bits;
 
+/// A case, as far as its lines were read.
 #[derive(Clone, Copy, Default)]
 pub struct Case {
     // up to two classes, a byte each; 0 where both answer alike
@@ -24,28 +24,19 @@ impl Case {
     // A case is right where all that is due was found; and where a class is named, some part of the other answer was
     // not.
     fn is_right(&self) -> bool {
-        if self.wrong {
-            false
-        } else if self.class == 0 {
-            self.told == 0
-        } else {
-            self.same != self.told
+        match self.class {
+            0 => !self.wrong && self.told == 0,
+            _ => !self.wrong && self.same != self.told,
         }
     }
 }
 
 impl<W: Write> Replay<'_, W> {
-    // A word of the core or of the last answer.
+    // A word of the core or of the last answer; 0 past the last.
     fn found(&self, place: u64) -> u64 {
-        if place < ANSWER {
-            return self.machine.word(place as usize);
-        }
-        match place - ANSWER {
-            0 => self.ans[0],
-            1 => self.ans[1],
-            2 => self.ans[2],
-            3 => self.ans[3],
-            _ => 0,
+        match place.checked_sub(ANSWER) {
+            Some(k) => self.answer.words().get(k as usize).copied().unwrap_or(0),
+            None => self.machine.word(place as usize),
         }
     }
 
@@ -67,24 +58,25 @@ impl<W: Write> Replay<'_, W> {
 
     // The answer that is due: its code, third and fourth word in one, and its second word.
     fn answered(&mut self, small: u64, value: u64) -> io::Result<()> {
-        let [code, a, b, c] = self.ans;
-        self.due(ANSWER, code, small % 256)?;
-        self.due(ANSWER + 1, a, value)?;
-        self.due(ANSWER + 2, b, small / 256 % 256)?;
-        self.due(ANSWER + 3, c, small / 65536 % 256)
+        let [code, second, third, ..] = small.to_le_bytes().map(u64::from);
+        let words = self.answer.words();
+        for ((place, is), want) in (ANSWER..).zip(words).zip([code, value, second, third]) {
+            self.due(place, is, want)?;
+        }
+        Ok(())
     }
 
     // A part of the other answer.
     fn other(&mut self, place: u64, told: u64) {
-        self.case.told = bits::more(self.case.told);
+        self.case.told = self.case.told.wrapping_add(1);
         if self.found(place) == told {
-            self.case.same = bits::more(self.case.same);
+            self.case.same = self.case.same.wrapping_add(1);
         }
     }
 
     fn end(&mut self) -> io::Result<()> {
         let class = self.case.class;
-        self.counts.cases = bits::more(self.counts.cases);
+        self.counts.cases = self.counts.cases.wrapping_add(1);
         if self.case.is_right() {
             self.tally.note_case(class);
             if 256 <= class {
@@ -92,23 +84,20 @@ impl<W: Write> Replay<'_, W> {
             }
             return Ok(());
         }
-        self.counts.wrong = bits::more(self.counts.wrong);
-        if self.case.wrong {
-            Ok(())
-        } else {
-            write!(self.out, "\n  a case that agrees, or has no class")
+        self.counts.wrong = self.counts.wrong.wrapping_add(1);
+        if !self.case.wrong {
+            write!(self.out, "\n  a case that agrees, or has no class")?;
         }
+        Ok(())
     }
 
-    // A line of a case.
+    /// A line of a case.
     pub fn case_line(&mut self, op: &[u64; 8]) -> Result<(), Stop> {
         let [code, first, second, ..] = *op;
         match code {
             70 => {
-                self.case = Case {
-                    class: first,
-                    ..Case::default()
-                };
+                self.case = Case::default();
+                self.case.class = first;
             }
             71 => {
                 let is = self.machine.word(first as usize);

@@ -1,24 +1,35 @@
-// The words after an operation, held against what the core answered and holds.
+//! The words after an operation, held against what the core answered and holds.
 use crate::replay::Replay;
-use crate::rows::Words;
 use crate::stop::{Fault, Stop};
-use crate::{parts, rows};
+use crate::words::Words;
 use core_parts::read;
 use record_report::difference::Difference;
 use std::io::Write;
 use trace_core::machine::Machine;
+use trace_text::answer::Answer;
 use trace_text::line::Operation;
-use word::bits;
 
-// Parts of the core, the numbers of entries and hints, and the digests, that of RAM last.
-fn core_words(machine: &Machine, ram: u64) -> [u64; rows::CORE] {
+/// How many words an operation's line has after the operation's own eight.
+pub const AFTER: usize = 30;
+
+// These words as the core has them, each with its name: the answer, parts of the core, the numbers of entries and
+// hints, and the digests, that of RAM last. A word that a later form adds is one more here.
+fn words_after(machine: &mut Machine, answer: Answer) -> [(&'static str, u64); AFTER] {
+    let ram = machine.window_digest();
     let core = &machine.core;
+<<<<<<< HEAD
     let levels = &core.tlb.levels;
+=======
+    let [code, word1, word2, word3] = answer.words();
+    let [el0, el1, el2, el3] = core.tlb.levels;
+    let current = core.tlb.cache.current;
+>>>>>>> 5fea152f (Traces and records: an answer is an enum with its words and its text, numbers become enums by TryFrom, refusals by thiserror)
     let mut pending = [0; 2];
     read::pending(core, &mut pending);
     let entries = digest::parts::entries(core);
     let hints = digest::parts::hints(core);
     [
+<<<<<<< HEAD
         levels[0].hits,
         levels[0].walks,
         levels[1].hits,
@@ -45,30 +56,52 @@ fn core_words(machine: &Machine, ram: u64) -> [u64; rows::CORE] {
         entries.digest,
         hints.digest,
         ram,
+=======
+        ("the answer's code", code),
+        ("the answer's word 1", word1),
+        ("the answer's word 2", word2),
+        ("the answer's word 3", word3),
+        ("hits of EL0", el0.hits),
+        ("walks of EL0", el0.walks),
+        ("hits of EL1", el1.hits),
+        ("walks of EL1", el1.walks),
+        ("hits of EL2", el2.hits),
+        ("walks of EL2", el2.walks),
+        ("hits of EL3", el3.hits),
+        ("walks of EL3", el3.walks),
+        ("flushes", core.tlb.flushes),
+        ("drops", core.tlb.drops),
+        ("epoch", core.tlb.epoch),
+        ("pending", pending[0]),
+        ("its value", pending[1]),
+        ("last_pa", core.last_pa),
+        ("abort_pa", core.abort_pa),
+        ("level", machine.level()),
+        ("unprivileged", u64::from(core.privilege.unprivileged)),
+        ("generation", u64::from(current.generation)),
+        ("ASID", u64::from(current.asid)),
+        ("PAR_EL1", core.sys.par_el1),
+        ("live entries", entries.count),
+        ("hints", hints.count),
+        ("digest of registers", digest::parts::registers(core)),
+        ("digest of entries", entries.digest),
+        ("digest of hints", hints.digest),
+        ("digest of RAM", ram),
+>>>>>>> 5fea152f (Traces and records: an answer is an enum with its words and its text, numbers become enums by TryFrom, refusals by thiserror)
     ]
 }
 
 impl<W: Write> Replay<'_, W> {
-    // As the core has them.
-    fn words_after(&mut self) -> Words {
-        let ram = self.machine.window_digest();
-        let mut is = [0; rows::AFTER];
-        is[..rows::ANSWER].copy_from_slice(&self.ans);
-        is[rows::ANSWER..].copy_from_slice(&core_words(&self.machine, ram));
-        is
-    }
-
     // The first word that is not as recorded, by its place in the line and its name.
-    fn first_wrong(&mut self, want: &[u8]) -> Option<Difference> {
-        let words = self.words_after();
-        for (i, is) in words.iter().enumerate() {
-            let want = parts::word_of(want, i as u64);
-            if *is != want {
+    fn first_wrong(&mut self, want: [u64; AFTER]) -> Option<Difference> {
+        let words = words_after(&mut self.machine, self.answer);
+        for ((word, (name, is)), want) in (8u64..).zip(words).zip(want) {
+            if is != want {
                 return Some(Difference {
                     line: self.lines,
-                    word: 8 + i as u64 % 64,
-                    name: Some(rows::name(i)),
-                    is: *is,
+                    word,
+                    name: Some(name),
+                    is,
                     want,
                 });
             }
@@ -76,15 +109,17 @@ impl<W: Write> Replay<'_, W> {
         None
     }
 
-    // The recorded words after an operation.
-    pub fn judge(&mut self, want: &[u8], operation: &Operation) -> Result<(), Stop> {
-        if want.len() < rows::BYTES {
+    /// The recorded words after an operation.
+    pub fn judge(&mut self, words: &mut Words<'_>, operation: &Operation) -> Result<(), Stop> {
+        if !words.has(AFTER) {
             return Err(Stop::Broken(Fault::ShortLine));
         }
+        let mut want = [0; AFTER];
+        words.fill(&mut want);
         let par = self.machine.core.sys.par_el1;
-        self.tally.note(operation, &self.ans, par);
+        self.tally.note(operation, self.answer, par);
         if let Some(difference) = self.first_wrong(want) {
-            self.counts.wrong = bits::more(self.counts.wrong);
+            self.counts.wrong = self.counts.wrong.wrapping_add(1);
             write!(self.out, "{difference}")?;
         }
         Ok(())

@@ -1,13 +1,12 @@
 #![tactic(auto)]
-// Replays recorded answers on the proved core: each argument names a record; each difference is shown, then what was
-// replayed. The status is 1 where there is a difference.
+//! Replays recorded answers on the proved core: each argument names a record; each difference is shown, then what was
+//! replayed. The status is 1 where there is a difference.
 mod cases;
 mod judge;
 mod lines;
-mod parts;
 mod replay;
-mod rows;
 mod stop;
+mod words;
 
 use replay::Replay;
 use std::io::BufWriter;
@@ -20,9 +19,9 @@ fn main(rt: HostRuntime) -> io::Result<ExitCode> {
     for name in env::args(&rt)?.skip(1) {
         replay.file(&rt, name.as_str())?;
     }
-    if replay.finish()? {
-        Ok(ExitCode::SUCCESS)
+    Ok(if replay.finish()? {
+        ExitCode::SUCCESS
     } else {
-        Ok(ExitCode::FAILURE)
-    }
+        ExitCode::FAILURE
+    })
 }

@@ -1,5 +1,6 @@
-// Records, replayed one after another on one core, and what is said of them.
+//! Records, replayed one after another on one core, and what is said of them.
 use crate::cases::Case;
+use operations::call::Reply;
 use record_report::report;
 use record_report::report::Counts;
 use record_report::tally::Tally;
@@ -8,8 +9,12 @@ use std::io::{ErrorKind, Read, Write};
 use std::rt::Files;
 use std::{fs, io};
 use trace_core::machine::Machine;
-use word::bits;
+use trace_text::answer::Answer;
 
+// The last answer where there was none yet.
+const NOTHING: Answer = Answer::Reply(Reply::Done);
+
+/// A core on which records are replayed, and what they came to.
 #[derive(Drop)]
 pub struct Replay<'a, W> {
     pub out: &'a mut W,
@@ -22,7 +27,7 @@ pub struct Replay<'a, W> {
     pub lines: u64,
     pub counts: Counts,
     pub case: Case,
-    pub ans: [u64; 4],
+    pub answer: Answer,
 }
 
 // A file's bytes, up to where a read fails; nothing where it can't be opened.
@@ -48,36 +53,36 @@ impl<'a, W: Write> Replay<'a, W> {
             lines: 0,
             counts: Counts::default(),
             case: Case::default(),
-            ans: [0; 4],
+            answer: NOTHING,
         })
     }
 
-    // A new record begins.
+    /// A new record begins.
     pub fn restart(&mut self) {
         self.machine.restart();
         self.lines = 0;
         self.counts = Counts::default();
         self.case = Case::default();
-        self.ans = [0; 4];
+        self.answer = NOTHING;
     }
 
-    // A record by its name.
+    /// A record by its name.
     pub fn file<R: Files + AllocGlobal>(&mut self, rt: &R, name: &str) -> io::Result<()> {
         write!(self.out, "{name}")?;
         let Some(bytes) = bytes_of(rt, name)? else {
-            self.total.wrong = bits::more(self.total.wrong);
+            self.total.wrong = self.total.wrong.wrapping_add(1);
             return writeln!(self.out, ": no such file");
         };
         self.record(bytes.as_slice())?;
-        self.records = bits::more(self.records);
+        self.records = self.records.wrapping_add(1);
         self.total.add(&self.counts);
         writeln!(self.out, "{}", self.counts)
     }
 
-    // The summary, and whether all was as recorded. A run without a record shows nothing.
+    /// The summary, and whether all was as recorded. A run without a record shows nothing.
     pub fn finish(&mut self) -> io::Result<bool> {
         if self.records == 0 {
-            self.total.wrong = bits::more(self.total.wrong);
+            self.total.wrong = self.total.wrong.wrapping_add(1);
             writeln!(self.out, "no record was replayed")?;
         }
         report::all(self.out, self.records, &self.total, &self.tally)?;

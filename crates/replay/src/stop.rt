@@ -1,45 +1,34 @@
-// What ends a record.
+//! What ends a record.
 use std::alloc::AllocError;
-use std::{fmt, io};
+use std::io;
+use thiserror::Error;
 
-// A fault of the record itself.
-#[derive(Clone, Copy)]
+/// A fault of the record itself.
+#[derive(Clone, Copy, Debug, Error)]
 pub enum Fault {
+    #[error("no record of the form A72REC02 with 38 words to an operation")]
     NoRecord,
+    #[error("the last line is not whole")]
     ShortLine,
+    #[error("no such line")]
     NoSuchLine,
+    #[error("no such operation")]
     NoSuchOperation,
+    #[error("the window is too large")]
     LargeWindow,
+    #[error("no operation was replayed")]
     NothingReplayed,
+    #[error("the header has other numbers")]
     OtherNumbers,
 }
 
-impl fmt::Display for Fault {
-    fn fmt<W: fmt::Write>(&self, f: &mut fmt::Formatter<W>) -> fmt::Result {
-        f.write_str(match self {
-            Fault::NoRecord => "no record of the form A72REC02 with 38 words to an operation",
-            Fault::ShortLine => "the last line is not whole",
-            Fault::NoSuchLine => "no such line",
-            Fault::NoSuchOperation => "no such operation",
-            Fault::LargeWindow => "the window is too large",
-            Fault::NothingReplayed => "no operation was replayed",
-            Fault::OtherNumbers => "the header has other numbers",
-        })
-    }
-}
-
-// The record's end, a fault of its, or that what is said of it can't be written.
-#[derive(Clone, Copy)]
+/// A fault of the record, or that what is said of it can't be written.
+#[derive(Clone, Copy, Debug, Error)]
 pub enum Stop {
-    End,
-    Broken(Fault),
-    Output(io::Error),
-}
-
-impl From<io::Error> for Stop {
-    fn from(error: io::Error) -> Stop {
-        Stop::Output(error)
-    }
+    #[error(transparent)]
+    Broken(#[from] Fault),
+    #[error(transparent)]
+    Output(#[from] io::Error),
 }
 
 impl From<AllocError> for Stop {

@@ -1,12 +1,21 @@
 -- An access: what it wants, who makes it, what it needs, and its answer.
-use Rattle.std.specs.Prelude.{if◌then◌else◌, ℕ, ◌+◌, ◌*◌, ◌/◌, ◌%◌, ◌^◌, Bool, true, false, not, ◌&&◌, ◌||◌, ◌==◌, bit_or, Ok, Err}
+use Rattle.std.specs.Prelude.{if◌then◌else◌, ℕ, ◌+◌, ◌*◌, ◌/◌, ◌%◌, ◌^◌, Bool, true, false, not, ◌&&◌, ◌||◌, ◌==◌, bit_or, Result, Ok, Err, eqb}
 use Rattle.fault.specs.First.{first}
 use Rattle.walk.specs.declared.regime.Regime.{Regime}
 use Rattle.walk.specs.declared.regime.Regime.TheVariants.{El1, El2, El3}
 use Rattle.tlb.specs.Hint.{on_page}
-use Rattle.tlb.specs.declared.{entry.Entry.Entry, access.Kind.Kind, access.Privilege.Privilege}
+use Rattle.tlb.specs.declared.{entry.Entry.Entry, access.Kind.Kind, access.NoSuchKind.NoSuchKind, access.Privilege.Privilege}
 use Rattle.tlb.specs.Answers.{Answer}
 use Rattle.tlb.specs.declared.access.Kind.TheVariants.{Read, Write, Fetch}
+
+-- the number of a kind, and the kind of a number
+abbrev pub kind_number : Kind → ℕ
+kind_number Read = 1
+kind_number Write = 2
+kind_number Fetch = 4
+
+abbrev pub kind_at : ℕ → Result Kind NoSuchKind
+kind_at n = if eqb n 1 then Ok Read else if eqb n 2 then Ok Write else if eqb n 4 then Ok Fetch else Err (record { 0 = n })
 
 abbrev pub is_fetch : Kind → Bool
 is_fetch Read = false

@@ -1,6 +1,6 @@
 // An access: what it wants, who makes it, what it needs, and its answer.
 ghost use Rattle.std.specs.Prelude.{◌≡◌, ◌≤◌};
-ghost use Rattle.tlb.specs.Access.{is_fetch, may_hint, tag_of, user_of, right_of, judged};
+ghost use Rattle.tlb.specs.Access.{is_fetch, kind_at, kind_number, may_hint, tag_of, user_of, right_of, judged};
 
 use crate::entry::Entry;
 use crate::hint;
@@ -13,6 +13,37 @@ pub enum Kind {
     Read = 1,
     Write = 2,
     Fetch = 4,
+}
+
+/// A number other than 1, 2 and 4, which name a kind of access.
+#[derive(Clone, Copy, Debug)]
+pub struct NoSuchKind(pub u64);
+
+impl TryFrom<u64> for Kind {
+    type Error = NoSuchKind;
+
+    ghost try_from_gives = { λ number kind. kind ≡ kind_at number };
+
+    fn try_from(number: u64) -> Result<Kind, NoSuchKind> {
+        match number {
+            1 => Ok(Kind::Read),
+            2 => Ok(Kind::Write),
+            4 => Ok(Kind::Fetch),
+            _ => Err(NoSuchKind(number)),
+        }
+    }
+}
+
+impl From<Kind> for u64 {
+    ghost from_gives = { λ kind number. number ≡ kind_number kind };
+
+    fn from(kind: Kind) -> u64 {
+        match kind {
+            Kind::Read => 1,
+            Kind::Write => 2,
+            Kind::Fetch => 4,
+        }
+    }
 }
 
 /// The exception level, and whether loads and stores count as EL0's.

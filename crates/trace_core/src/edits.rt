@@ -1,4 +1,4 @@
-// Lines that overwrite a part of the core.
+//! Lines that overwrite a part of the core.
 use crate::machine::Machine;
 use cpu::Core;
 use saved::{place, restore, save};
@@ -10,6 +10,7 @@ use trace_text::line::{Part, Poke};
 
 // An entry when the generation is overwritten: a live one stays live; of the others those that were and are of a later
 // generation stay, if they may.
+<<<<<<< HEAD
 fn moved(e: Entry, from: u32, to: u32, later: bool) -> Entry {
     let live = e.generation == from;
     let kept = later & (from < e.generation) & (to < e.generation);
@@ -26,11 +27,28 @@ fn move_generation(core: &mut Core, to: u32, later: bool) {
     let from = core.tlb.generation;
     for e in core.tlb.entries.iter_mut() {
         *e = moved(*e, from, to, later);
+=======
+fn moved(e: Entry, current: u32, to: u32, later: bool) -> Entry {
+    if e.generation == current {
+        e.stamped(to)
+    } else if later && current < e.generation && to < e.generation {
+        e
+    } else {
+        Entry::blank()
+    }
+}
+
+fn move_generation(core: &mut Core, to: u32, later: bool) {
+    let current = core.tlb.generation;
+    for e in core.tlb.entries.iter_mut() {
+        *e = moved(*e, current, to, later);
+>>>>>>> 5fea152f (Traces and records: an answer is an enum with its words and its text, numbers become enums by TryFrom, refusals by thiserror)
     }
     core.tlb.generation = to;
 }
 
 // Each counter at a value: by level EL0's alone, so that the sums are the value too.
+<<<<<<< HEAD
 fn put_counters(tlb: &mut Tlb, value: u64) {
     tlb.levels = [Tally::default(); 4];
     tlb.levels[0] = Tally {
@@ -40,6 +58,20 @@ fn put_counters(tlb: &mut Tlb, value: u64) {
     tlb.flushes = value;
     tlb.drops = value;
     tlb.epoch = value;
+=======
+fn counts_at(value: u64) -> Counts {
+    let mut levels = [Tally::new(); 4];
+    levels[0] = Tally {
+        hits: value,
+        walks: value,
+    };
+    Counts {
+        levels,
+        flushes: value,
+        drops: value,
+        epoch: value,
+    }
+>>>>>>> 5fea152f (Traces and records: an answer is an enum with its words and its text, numbers become enums by TryFrom, refusals by thiserror)
 }
 
 // The bits of a word that a line sets.
@@ -65,6 +97,7 @@ fn put_word(core: &mut Core, place: usize, value: u64) {
 
 // No core holds a generation of more than 32 bits: an entry of one is blank.
 fn entry_of(tag: u64, generation: u64, bits: u64, pa: u64) -> Entry {
+<<<<<<< HEAD
     match u32::try_from(generation) {
         Ok(generation) => Entry {
             tag,
@@ -76,9 +109,24 @@ fn entry_of(tag: u64, generation: u64, bits: u64, pa: u64) -> Entry {
             pa,
         },
         Err(_) => Entry::default(),
+=======
+    let Ok(generation) = u32::try_from(generation) else {
+        return Entry::blank();
+    };
+    let [perms, level, flags, _, low, high, ..] = bits.to_le_bytes();
+    Entry {
+        tag,
+        generation,
+        perms,
+        level,
+        global: flags & 1 != 0,
+        asid: u16::from_le_bytes([low, high]),
+        pa,
+>>>>>>> 5fea152f (Traces and records: an answer is an enum with its words and its text, numbers become enums by TryFrom, refusals by thiserror)
     }
 }
 
+/// A part of the core is written that no call writes alone.
 pub fn poke(machine: &mut Machine, poke: Poke) {
     let core = &mut machine.core;
     match poke {
@@ -91,6 +139,7 @@ pub fn poke(machine: &mut Machine, poke: Poke) {
     }
 }
 
+/// A word, a hint or an entry is written.
 pub fn overwrite(machine: &mut Machine, part: Part) {
     let core = &mut machine.core;
     match part {

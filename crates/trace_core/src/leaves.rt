@@ -1,121 +1,109 @@
-// Leaves: functions of the registers as they stand, which change nothing.
+//! Leaves: functions of the registers as they stand, which change nothing.
 use cpu::Core;
 use exception::enter;
 use exception::kind::Exception;
+<<<<<<< HEAD
+=======
+use exception::{report, take};
+use operations::call::Reply;
+>>>>>>> 5fea152f (Traces and records: an answer is an enum with its words and its text, numbers become enums by TryFrom, refusals by thiserror)
 use sysreg::encoding;
 use sysreg::regs::{ControlReg, El, Register, SysReg};
-use trace_text::line;
-use walk::level::Leaf;
+use trace_text::answer::Answer;
+use trace_text::line::Leaf;
 use walk::regime::{Bank, Regime};
 use walk::{range, rights};
-use word::bits::flag_word;
 
-fn value(v: u64) -> [u64; 4] {
-    [1, v, 0, 0]
+fn value(value: u64) -> Answer {
+    Answer::Reply(Reply::Value(value))
 }
 
-fn pair(a: u64, b: u64) -> [u64; 4] {
-    [4, a, b, 0]
-}
-
-fn asid(core: &Core) -> [u64; 4] {
-    value(core.control.asid() as u64)
-}
-
-fn stage1_on(core: &Core, r: Regime) -> [u64; 4] {
-    value(flag_word(Bank::new(&core.control, r).stage1_on(r)))
-}
-
-fn untag(core: &Core, r: Regime, va: u64) -> [u64; 4] {
-    let b = Bank::new(&core.control, r);
-    value(b.untag(r, va))
-}
-
-// Attribute index, shareability and NS are the descriptor's own bits.
-fn leaf_words(l: Leaf) -> [u64; 4] {
-    let d = l.desc;
-    let g = flag_word(l.global);
-    let kind = (d >> 2) % 8 + (d >> 8) % 4 * 0x100 + (d >> 5) % 2 * 0x1_0000 + g * 0x100_0000;
-    [3, l.oa, l.perms as u64 + l.level as u64 * 256, kind]
-}
-
-fn walk_of(core: &Core, r: Regime, va: u64, base: u64, ram: &[u8]) -> [u64; 4] {
-    match Bank::new(&core.control, r).walk(r, va, base, ram) {
-        Ok(l) => leaf_words(l),
-        Err(status) => [8, va, status as u64, 0],
+fn walk_of(bank: Bank, r: Regime, va: u64, base: u64, ram: &[u8]) -> Answer {
+    match bank.walk(r, va, base, ram) {
+        Ok(leaf) => Answer::Leaf(leaf),
+        Err(status) => {
+            let fault = fault::first(status);
+            Answer::Reply(Reply::Fault { addr: va, fault })
+        }
     }
 }
 
-fn perms(p: u8) -> [u64; 4] {
-    value(rights::perm_bits(p % 2 == 1, p / 2 % 2 == 1, p / 4 % 2 == 1) as u64)
+// A register's number, and its level.
+fn numbered(number: u64, el: El) -> Answer {
+    Answer::Pair(number, el.index() as u64)
 }
 
-fn level(el: El) -> u64 {
-    el.index() as u64
-}
-
-fn control_pair(r: ControlReg) -> [u64; 4] {
+fn control_number(r: ControlReg) -> Answer {
     match r {
-        ControlReg::Sctlr(el) => pair(0, level(el)),
-        ControlReg::Tcr(el) => pair(1, level(el)),
-        ControlReg::Ttbr0(el) => pair(2, level(el)),
-        ControlReg::Ttbr1 => pair(3, 1),
-        ControlReg::Scr => pair(10, 3),
-        ControlReg::Hcr => pair(11, 2),
+        ControlReg::Sctlr(el) => numbered(0, el),
+        ControlReg::Tcr(el) => numbered(1, el),
+        ControlReg::Ttbr0(el) => numbered(2, el),
+        ControlReg::Ttbr1 => Answer::Pair(3, 1),
+        ControlReg::Scr => Answer::Pair(10, 3),
+        ControlReg::Hcr => Answer::Pair(11, 2),
     }
 }
 
 // PAR_EL1 is no banked register.
-fn sys_pair(r: SysReg) -> [u64; 4] {
+fn sys_number(r: SysReg) -> Answer {
     match r {
-        SysReg::Mair(el) => pair(4, level(el)),
-        SysReg::Vbar(el) => pair(5, level(el)),
-        SysReg::Elr(el) => pair(6, level(el)),
-        SysReg::Spsr(el) => pair(7, level(el)),
-        SysReg::Esr(el) => pair(8, level(el)),
-        SysReg::Far(el) => pair(9, level(el)),
-        SysReg::Vpidr => pair(12, 2),
-        SysReg::Vmpidr => pair(13, 2),
-        SysReg::Par => [2, 0, 0, 0],
+        SysReg::Mair(el) => numbered(4, el),
+        SysReg::Vbar(el) => numbered(5, el),
+        SysReg::Elr(el) => numbered(6, el),
+        SysReg::Spsr(el) => numbered(7, el),
+        SysReg::Esr(el) => numbered(8, el),
+        SysReg::Far(el) => numbered(9, el),
+        SysReg::Vpidr => Answer::Pair(12, 2),
+        SysReg::Vmpidr => Answer::Pair(13, 2),
+        SysReg::Par => Answer::Reply(Reply::Faults),
     }
 }
 
-// A register's number and level, by its key.
-fn bank(key: u32) -> [u64; 4] {
+fn bank(key: u32) -> Answer {
     match encoding::banked(key) {
-        Some(found) => match found {
-            Register::InControl(r) => control_pair(r),
-            Register::InSys(r) => sys_pair(r),
-        },
-        None => [2, 0, 0, 0],
+        Some(Register::InControl(r)) => control_number(r),
+        Some(Register::InSys(r)) => sys_number(r),
+        None => Answer::Reply(Reply::Faults),
     }
 }
 
 // The group depends on whether the two levels are one.
-fn vector(from: u64, to: u64, spsel: bool) -> [u64; 4] {
+fn vector(from: u64, to: u64, spsel: bool) -> Answer {
     let below = if from == to { 1 } else { 0 };
     value(enter::vector_group(below, 1, spsel))
 }
 
-fn syndrome(from: u64, to: u64, pc: u64, e: Exception) -> [u64; 4] {
+fn syndrome(from: u64, to: u64, pc: u64, e: Exception) -> Answer {
     let below = if from < to { 0 } else { 1 };
+<<<<<<< HEAD
     match e.syndrome(below, 1, pc) {
         (esr, Some(far)) => pair(esr, far),
         (esr, None) => value(esr),
+=======
+    let r = report::syndrome(e, below, 1, pc);
+    match r.far {
+        Some(far) => Answer::Pair(r.esr, far),
+        None => value(r.esr),
+>>>>>>> 5fea152f (Traces and records: an answer is an enum with its words and its text, numbers become enums by TryFrom, refusals by thiserror)
     }
 }
 
-pub fn answer(core: &Core, leaf: line::Leaf, base: u64, ram: &[u8]) -> [u64; 4] {
+/// What a leaf answers. That no register or address is found is `Faults`.
+pub fn answer(core: &Core, leaf: Leaf, base: u64, ram: &[u8]) -> Answer {
+    let control = &core.control;
     match leaf {
-        line::Leaf::Asid => asid(core),
-        line::Leaf::Stage1On(r) => stage1_on(core, r),
-        line::Leaf::Untag(r, va) => untag(core, r, va),
-        line::Leaf::Walk(r, va) => walk_of(core, r, va, base, ram),
-        line::Leaf::PaBits(code) => value(range::pa_bits(code)),
-        line::Leaf::Permissions(bits) => perms(bits),
-        line::Leaf::Bank(key) => bank(key),
-        line::Leaf::Vector { from, to, spsel } => vector(from, to, spsel),
-        line::Leaf::Syndrome {
+        Leaf::Asid => value(u64::from(control.asid())),
+        Leaf::Stage1On(r) => value(u64::from(Bank::new(control, r).stage1_on(r))),
+        Leaf::Untag(r, va) => value(tag::untag(Bank::new(control, r).tcr, r, va)),
+        Leaf::Walk(r, va) => walk_of(Bank::new(control, r), r, va, base, ram),
+        Leaf::PaBits(code) => value(range::pa_bits(code)),
+        Leaf::Permissions(bits) => {
+            let perms = rights::perm_bits(bits & 1 != 0, bits & 2 != 0, bits & 4 != 0);
+            value(u64::from(perms))
+        }
+        Leaf::Bank(key) => bank(key),
+        Leaf::Vector { from, to, spsel } => vector(from, to, spsel),
+        Leaf::Syndrome {
             from,
             to,
             pc,

@@ -1,7 +1,7 @@
 #![tactic(auto)]
-// The core and its window of RAM, and what each line of a trace does to them.
+//! The core and its window of RAM, and what each line of a trace does to them.
 mod calls;
-pub mod edits;
-pub mod leaves;
+mod edits;
+mod leaves;
 pub mod machine;
 pub mod memory;

@@ -1,19 +1,22 @@
-// The core, its window of RAM, and what a trace's lines do to them.
+//! The core, its window of RAM, and what a trace's lines do to them.
 use crate::{calls, edits, leaves, memory};
 use core_calls::inspect;
 use cpu::Core;
 use digest::counts;
-use operations::call::Call;
+use digest::parts::Sum;
+use operations::call::{Call, Reply};
 use saved::{place, save};
 use std::alloc::{AllocError, Global};
+use trace_text::answer::Answer;
 use trace_text::line::{LONGEST_WINDOW, Operation, Setup};
 
+/// A core, and its window of RAM.
 #[derive(Drop)]
 pub struct Machine {
     pub core: Core,
     // the last level that a line gave the core
     given_level: u64,
-    // the window: its base and its bytes
+    /// the window: its base and its bytes
     pub base: u64,
     pub ram: Vec<u8>,
     // its digest, which is dear, where it was taken since the bytes last changed
@@ -21,7 +24,7 @@ pub struct Machine {
 }
 
 impl Machine {
-    // A fresh core, and a window without bytes. Memory for the longest window is taken here.
+    /// A fresh core, and a window without bytes. Memory for the longest window is taken here.
     pub fn new(alloc: Global) -> Result<Machine, AllocError> {
         Ok(Machine {
             core: Core::new(),
@@ -32,7 +35,7 @@ impl Machine {
         })
     }
 
-    // As it was when it was made.
+    /// As it was when it was made.
     pub fn restart(&mut self) {
         self.core = Core::new();
         self.base = 0;
@@ -40,13 +43,13 @@ impl Machine {
         self.digest = None;
     }
 
-    // A core has a byte for its level. A larger one is 255 there, and is refused like each above 3.
+    /// A core has a byte for its level. A larger one is 255 there, and is refused like each above 3.
     pub fn set_level(&mut self, level: u64) {
-        self.core.privilege.level = if level < 255 { level as u8 } else { 255 };
+        self.core.privilege.level = u8::try_from(level).unwrap_or(u8::MAX);
         self.given_level = level;
     }
 
-    // The level, as it was given.
+    /// The level, as it was given.
     pub fn level(&self) -> u64 {
         match self.core.privilege.level {
             255 => self.given_level,
@@ -54,7 +57,7 @@ impl Machine {
         }
     }
 
-    // The word of the core at a place; 0 past the last.
+    /// The word of the core at a place; 0 past the last.
     pub fn word(&self, place: usize) -> u64 {
         match place {
             place::LEVEL => self.level(),
@@ -63,39 +66,40 @@ impl Machine {
     }
 
     // How many of a census's counts are not 0, and their digest; or the number of the check that it misses.
-    fn census(&self, first: u64, pages: u64) -> [u64; 4] {
+    fn census(&self, first: u64, pages: u64) -> Answer {
         let mut found = [0u64; 129];
         let ram = self.ram.as_slice();
         match inspect::census(&self.core, first, pages, &mut found, self.base, ram) {
             0 => {
-                let s = counts::counts(&found);
-                [11, s.count, s.digest, 0]
+                let Sum { count, digest } = counts::counts(&found);
+                Answer::Counts { count, digest }
             }
-            number => [5, number, 0, 0],
+            number => Answer::Reply(Reply::Refused((number % 256) as u8)),
         }
     }
 
-    // An operation's answer in four words.
-    pub fn perform(&mut self, operation: Operation) -> [u64; 4] {
+    /// Carries out an operation.
+    pub fn perform(&mut self, operation: Operation) -> Answer {
         if operation.moves_ram() {
             self.digest = None;
         }
         match operation {
             Operation::Call(Call::Census(first, pages)) => self.census(first, pages),
             Operation::Call(call) => {
-                calls::carry_out(&mut self.core, self.base, self.ram.as_mut_slice(), call)
+                let ram = self.ram.as_mut_slice();
+                Answer::Reply(calls::carry_out(&mut self.core, self.base, ram, call))
             }
             Operation::Leaf(leaf) => {
                 leaves::answer(&self.core, leaf, self.base, self.ram.as_slice())
             }
             Operation::Poke(poke) => {
                 edits::poke(self, poke);
-                [0; 4]
+                Answer::Reply(Reply::Done)
             }
         }
     }
 
-    // Bytes stay by offset when the window changes: new ones are zero, those past its end are lost.
+    /// Bytes stay by offset when the window changes: new ones are zero, those past its end are lost.
     pub fn arrange(&mut self, setup: Setup) -> Result<(), AllocError> {
         if setup.moves_ram() {
             self.digest = None;
@@ -115,7 +119,7 @@ impl Machine {
         Ok(())
     }
 
-    // The digest of the window.
+    /// The digest of the window.
     pub fn window_digest(&mut self) -> u64 {
         if let Some(digest) = self.digest {
             return digest;

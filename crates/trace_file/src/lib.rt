@@ -1,7 +1,5 @@
 #![tactic(auto)]
-// A trace from a file: its lines, what is said of those that are refused, and the line of output that an operation
-// gets.
+//! A trace from a file: its lines, what is said of those that are refused, and the line of output of an operation.
 pub mod report;
 pub mod run;
-pub mod show;
-pub mod source;
+mod show;

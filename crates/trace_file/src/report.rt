@@ -1,16 +1,17 @@
-// What keeps a trace from being carried out, and what is said of it on standard error: `FILE:LINE:COLUMN: reason`.
+//! What keeps a trace from being carried out, and what is said of it on standard error: `FILE:LINE:COLUMN: reason`.
 use std::alloc::{AllocError, Global};
 use std::io;
 use std::io::Write;
 use trace_text::reason::Refusal;
 
+/// What keeps a trace from being carried out.
 #[derive(Clone, Copy, Debug)]
 pub enum Trouble {
-    // what the system says of the file, or memory
+    /// what the system says of the file, or memory
     File(io::Error),
-    // standard output takes no more
+    /// standard output takes no more
     Output(io::Error),
-    // the number of the line that is refused
+    /// the number of the line that is refused
     Line(u64, Refusal),
     ManyLines,
     ReadOnce,
@@ -22,7 +23,7 @@ impl From<AllocError> for Trouble {
     }
 }
 
-// An error of the system in its own words, which std follows by the error's number.
+/// An error of the system in its own words, which std follows by the error's number.
 pub fn system<W: Write>(
     out: &mut W,
     alloc: Global,
@@ -36,7 +37,7 @@ pub fn system<W: Write>(
     }
 }
 
-// The message on a trace.
+/// The message on a trace.
 pub fn show<W: Write>(out: &mut W, alloc: Global, path: &str, trouble: Trouble) -> io::Result<()> {
     match trouble {
         Trouble::File(error) => system(out, alloc, path, error),

@@ -1,22 +1,18 @@
-// The arguments of a line, each by its type.
-use crate::lex::NumberError;
+//! The arguments of a line, each by its type.
+use crate::lex;
 use crate::reason::Reason;
-use crate::{lex, words};
 use tlb::access::Kind;
 use walk::regime::Regime;
 
+/// What a word of a line is read as.
 pub trait Argument {
-    // The argument that a word is.
+    /// The argument that a word is, or why it is none.
     fn read(word: &[u8]) -> Result<Self, Reason>;
 }
 
 impl Argument for u64 {
     fn read(word: &[u8]) -> Result<u64, Reason> {
-        match lex::signed_value_of(word) {
-            Ok(value) => Ok(value),
-            Err(NumberError::TooLarge) => Err(Reason::Above64),
-            Err(NumberError::NotNumber) => Err(Reason::NotNumber),
-        }
+        lex::signed_value_of(word)
     }
 }
 
@@ -38,7 +34,7 @@ impl Argument for u8 {
     }
 }
 
-// Any number but 0 is true.
+/// Any number but 0 is true.
 impl Argument for bool {
     fn read(word: &[u8]) -> Result<bool, Reason> {
         Ok(u64::read(word)? != 0)
@@ -47,17 +43,12 @@ impl Argument for bool {
 
 impl Argument for Kind {
     fn read(word: &[u8]) -> Result<Kind, Reason> {
-        match u64::read(word)? {
-            1 => Ok(Kind::Read),
-            2 => Ok(Kind::Write),
-            4 => Ok(Kind::Fetch),
-            _ => Err(Reason::NotKind),
-        }
+        Kind::try_from(u64::read(word)?).map_err(|_| Reason::NotKind)
     }
 }
 
 impl Argument for Regime {
     fn read(word: &[u8]) -> Result<Regime, Reason> {
-        words::regime(u64::read(word)?).ok_or(Reason::NotRegime)
+        Regime::try_from(u64::read(word)?).map_err(|_| Reason::NotRegime)
     }
 }

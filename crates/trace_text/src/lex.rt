@@ -1,10 +1,7 @@
-// The words of a line, and the numbers that they write.
-
-ghost use Rattle.std.specs.Prelude.{◌<◌, IfSome};
-
+//! The words of a line, and the numbers that they write.
 use crate::reason::{Reason, Refusal};
 
-// A word, and the column of its first byte, from 1.
+/// A word, and the column of its first byte, from 1.
 #[derive(Clone, Copy)]
 pub struct Word<'a> {
     pub column: usize,
@@ -20,30 +17,23 @@ impl Word<'_> {
     }
 }
 
-// What is left of a line, and the column where that begins.
+/// What is left of a line, and the column where that begins.
 #[derive(Clone, Copy)]
 pub struct Words<'a> {
     rest: &'a [u8],
     column: usize,
 }
 
-// What keeps a word from being a number.
-#[derive(Clone, Copy)]
-pub enum NumberError {
-    NotNumber,
-    TooLarge,
-}
-
 fn is_space(b: u8) -> bool {
-    (b == 32) | ((9 <= b) & (b <= 13))
+    matches!(b, b' ' | 9..=13)
 }
 
-// Whether a line holds the byte outside its comment: spaces, and those that ASCII prints.
+/// Whether a line holds the byte outside its comment: spaces, and those that ASCII prints.
 pub fn is_held(b: u8) -> bool {
-    is_space(b) | ((33 <= b) & (b <= 126))
+    is_space(b) || b.is_ascii_graphic()
 }
 
-// A line up to its comment.
+/// A line up to its comment.
 pub fn before_comment(line: &[u8]) -> &[u8] {
     match line.iter().position(|b| *b == b'#') {
         Some(k) => &line[..k],
@@ -59,7 +49,7 @@ impl<'a> Words<'a> {
         }
     }
 
-    // The next word, if there is one.
+    /// The next word, if there is one.
     pub fn next_word(&mut self) -> Option<Word<'a>> {
         let rest = self.rest;
         let start = rest.iter().position(|b| !is_space(*b))?;
@@ -73,45 +63,22 @@ impl<'a> Words<'a> {
     }
 }
 
-// The value of a hexadecimal digit.
-fn digit(b: u8) -> Option<u64>
-    ensures { IfSome result (λ d. d < 16) }
-{
-    match b {
-        b'0'..=b'9' => Some(u64::from(b - b'0')),
-        b'a'..=b'f' => Some(u64::from(b - b'a' + 10)),
-        b'A'..=b'F' => Some(u64::from(b - b'A' + 10)),
-        _ => None,
-    }
-}
-
-// The number of 64 bits that a word's bytes write in hexadecimal.
-pub fn value_of(word: &[u8]) -> Result<u64, NumberError> {
+/// The number of 64 bits that a word's bytes write in hexadecimal.
+pub fn value_of(word: &[u8]) -> Result<u64, Reason> {
     if word.is_empty() {
-        return Err(NumberError::NotNumber);
+        return Err(Reason::NotNumber);
     }
-    let mut value = 0u64;
-    let mut fits = true;
+    let mut value = Some(0u64);
     for b in word {
-        match digit(*b) {
-            None => return Err(NumberError::NotNumber),
-            Some(d) => {
-                if value < 0x1000_0000_0000_0000 {
-                    value = value * 16 + d;
-                } else {
-                    fits = false;
-                }
-            }
-        }
+        let digit = char::from(*b).to_digit(16).ok_or(Reason::NotNumber)?;
+        value = value
+            .and_then(|v| v.checked_mul(16))
+            .map(|v| v | u64::from(digit));
     }
-    if fits {
-        Ok(value)
-    } else {
-        Err(NumberError::TooLarge)
-    }
+    value.ok_or(Reason::Above64)
 }
 
-// The same, where a plus may stand before the digits.
-pub fn signed_value_of(word: &[u8]) -> Result<u64, NumberError> {
+/// The same, where a plus may stand before the digits.
+pub fn signed_value_of(word: &[u8]) -> Result<u64, Reason> {
     value_of(word.strip_prefix(b"+").unwrap_or(word))
 }

@@ -1,4 +1,4 @@
-// The lines of a trace.
+//! The lines of a trace.
 use exception::kind::Exception;
 use operations::call::Call;
 use system::decode::Encoding;
@@ -10,7 +10,7 @@ pub enum Line {
     Setup(Setup),
 }
 
-// What has an answer, and a line of output.
+/// What has an answer, and a line of output.
 #[derive(Clone, Copy)]
 pub enum Operation {
     Call(Call),
@@ -18,20 +18,20 @@ pub enum Operation {
     Poke(Poke),
 }
 
-// A function of the registers as they stand: it changes nothing.
+/// A function of the registers as they stand: it changes nothing.
 #[derive(Clone, Copy)]
 pub enum Leaf {
     Asid,
     Stage1On(Regime),
     Untag(Regime, u64),
     Walk(Regime, u64),
-    // the code of an output size
+    /// the code of an output size
     PaBits(u64),
-    // EL0 may write, EL1 may write, and the like: the bits 0 to 2
+    /// EL0 may write, EL1 may write, and the like: the bits 0 to 2
     Permissions(u8),
-    // the key of a register
+    /// the key of a register
     Bank(u32),
-    // the levels that an exception is taken from and to
+    /// the levels that an exception is taken from and to
     Vector {
         from: u64,
         to: u64,
@@ -45,7 +45,7 @@ pub enum Leaf {
     },
 }
 
-// A write of a part of the core that no call writes alone.
+/// A write of a part of the core that no call writes alone.
 #[derive(Clone, Copy)]
 pub enum Poke {
     Level(u64),
@@ -53,23 +53,23 @@ pub enum Poke {
     Spsel(bool),
     Generation(u32),
     Counters(u64),
-    // a pending invalidation is taken away
+    /// a pending invalidation is taken away
     Broadcast,
 }
 
-// What stands around the operations.
+/// What stands around the operations.
 #[derive(Clone, Copy)]
 pub enum Setup {
     Fresh,
     Window { base: u64, len: usize },
-    // the window's bytes become 0
+    /// the window's bytes become 0
     Zero,
-    // another agent writes eight bytes
+    /// another agent writes eight bytes
     Write { addr: u64, value: u64 },
     Part(Part),
 }
 
-// A write of the core's words.
+/// A write of the core's words.
 #[derive(Clone, Copy)]
 pub enum Part {
     Word {
@@ -81,7 +81,7 @@ pub enum Part {
         key: u64,
         pa: u64,
     },
-    // bits: permissions 0 to 7, level 8 to 15, global 16, ASID 32 to 47
+    /// bits: permissions 0 to 7, level 8 to 15, global 16, ASID 32 to 47
     Entry {
         slot: u16,
         tag: u64,
@@ -96,16 +96,16 @@ pub enum Part {
     },
 }
 
-// The longest window, in bytes.
+/// The longest window, in bytes.
 pub const LONGEST_WINDOW: usize = 0x20_0000;
 
-// Whether a system operation is DC ZVA.
+/// Whether a system operation is DC ZVA.
 pub fn zeroes_block(at: &Encoding) -> bool {
     at.op1 == 3 && at.crn == 7 && at.crm == 4 && at.op2 == 1
 }
 
 impl Operation {
-    // Whether it may change the window.
+    /// Whether it may change the window.
     pub fn moves_ram(&self) -> bool {
         match self {
             Operation::Call(Call::Store(..)) => true,

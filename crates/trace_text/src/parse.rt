@@ -1,4 +1,4 @@
-// What a line of a trace means: a line, nothing, or the place and the reason of a refusal.
+//! What a line of a trace means: a line, nothing, or the place and the reason of a refusal.
 use crate::argument::Argument;
 use crate::lex;
 use crate::lex::{Word, Words};
@@ -17,22 +17,16 @@ struct Reader<'a> {
 
 impl<'a> Reader<'a> {
     fn word(&mut self) -> Result<Word<'a>, Refusal> {
-        match self.words.next_word() {
-            Some(word) => Ok(word),
-            None => Err(Refusal {
-                column: self.end,
-                reason: Reason::Missing,
-            }),
-        }
+        self.words.next_word().ok_or(Refusal {
+            column: self.end,
+            reason: Reason::Missing,
+        })
     }
 
     // The next argument, as its type asks for it.
     fn next<T: Argument>(&mut self) -> Result<T, Refusal> {
         let word = self.word()?;
-        match T::read(word.text) {
-            Ok(value) => Ok(value),
-            Err(reason) => Err(word.refused(reason)),
-        }
+        T::read(word.text).map_err(|reason| word.refused(reason))
     }
 
     // A word of an operation that has 32 bits in a trace.
@@ -72,8 +66,8 @@ impl<'a> Reader<'a> {
         })
     }
 
-    fn call(&mut self, name: &[u8]) -> Result<Option<Call>, Refusal> {
-        Ok(Some(match name {
+    fn call(&mut self, name: Word<'_>) -> Result<Call, Refusal> {
+        Ok(match name.text {
             b"tr" => Call::Translate(self.next()?, self.next()?),
             b"dpa" => Call::DataPa(self.next()?),
             b"fpa" => Call::FetchPa(self.next()?),
@@ -87,12 +81,12 @@ impl<'a> Reader<'a> {
             b"x" => Call::General(self.wide()?, self.next()?),
             b"abort" => Call::Abort(self.exception()?),
             b"census" => Call::Census(self.next()?, self.next()?),
-            _ => return Ok(None),
-        }))
+            _ => return Err(name.refused(Reason::NoSuchLine)),
+        })
     }
 
-    fn leaf(&mut self, name: &[u8]) -> Result<Option<Leaf>, Refusal> {
-        Ok(Some(match name {
+    fn leaf(&mut self, name: Word<'_>) -> Result<Leaf, Refusal> {
+        Ok(match name.text {
             b"l-asid" => Leaf::Asid,
             b"l-on" => Leaf::Stage1On(self.next()?),
             b"l-untag" => Leaf::Untag(self.next()?, self.next()?),
@@ -111,34 +105,24 @@ impl<'a> Reader<'a> {
                 pc: self.next()?,
                 exception: self.exception()?,
             },
-            _ => return Ok(None),
-        }))
+            _ => return Err(name.refused(Reason::NoSuchLine)),
+        })
     }
 
-    fn poke(&mut self, name: &[u8]) -> Result<Option<Poke>, Refusal> {
-        Ok(Some(match name {
+    fn poke(&mut self, name: Word<'_>) -> Result<Poke, Refusal> {
+        Ok(match name.text {
             b"p-level" => Poke::Level(self.wide()?),
             b"p-pc" => Poke::Pc(self.next()?),
             b"p-spsel" => Poke::Spsel(self.next()?),
             b"p-gen" => Poke::Generation(self.next()?),
             b"p-cnt" => Poke::Counters(self.next()?),
             b"p-bc" => Poke::Broadcast,
-            _ => return Ok(None),
-        }))
+            _ => return Err(name.refused(Reason::NoSuchLine)),
+        })
     }
 
-    // The length of a window, in bytes.
-    fn length(&mut self) -> Result<usize, Refusal> {
-        let word = self.word()?;
-        match u64::read(word.text) {
-            Ok(len) if len <= LONGEST_WINDOW as u64 => Ok(len as usize),
-            Ok(_) => Err(word.refused(Reason::LongWindow)),
-            Err(reason) => Err(word.refused(reason)),
-        }
-    }
-
-    fn part(&mut self, name: &[u8]) -> Result<Option<Part>, Refusal> {
-        Ok(Some(match name {
+    fn part(&mut self, name: Word<'_>) -> Result<Part, Refusal> {
+        Ok(match name.text {
             b"w-word" => Part::Word {
                 place: self.next()?,
                 value: self.next()?,
@@ -160,45 +144,42 @@ impl<'a> Reader<'a> {
                 level: self.wide()?,
                 pa: self.next()?,
             },
-            _ => return Ok(None),
-        }))
+            _ => return Err(name.refused(Reason::NoSuchLine)),
+        })
     }
 
-    fn setup(&mut self, name: &[u8]) -> Result<Option<Setup>, Refusal> {
-        Ok(Some(match name {
-            b"fresh" => Setup::Fresh,
-            b"window" => Setup::Window {
-                base: self.next()?,
-                len: self.length()?,
-            },
-            b"zero" => Setup::Zero,
-            b"poke" => Setup::Write {
-                addr: self.next()?,
-                value: self.next()?,
-            },
-            _ => return Ok(self.part(name)?.map(Setup::Part)),
-        }))
+    // The length of a window, in bytes.
+    fn length(&mut self) -> Result<usize, Refusal> {
+        let word = self.word()?;
+        match u64::read(word.text) {
+            Ok(len) if len <= LONGEST_WINDOW as u64 => Ok(len as usize),
+            Ok(_) => Err(word.refused(Reason::LongWindow)),
+            Err(reason) => Err(word.refused(reason)),
+        }
     }
 
     // The line that begins with this word.
     fn line(&mut self, name: Word<'_>) -> Result<Line, Refusal> {
-        if let Some(call) = self.call(name.text)? {
-            return Ok(Line::Operation(Operation::Call(call)));
-        }
-        if let Some(leaf) = self.leaf(name.text)? {
-            return Ok(Line::Operation(Operation::Leaf(leaf)));
-        }
-        if let Some(poke) = self.poke(name.text)? {
-            return Ok(Line::Operation(Operation::Poke(poke)));
-        }
-        match self.setup(name.text)? {
-            Some(setup) => Ok(Line::Setup(setup)),
-            None => Err(name.refused(Reason::NoSuchLine)),
-        }
+        Ok(match name.text {
+            b"fresh" => Line::Setup(Setup::Fresh),
+            b"window" => Line::Setup(Setup::Window {
+                base: self.next()?,
+                len: self.length()?,
+            }),
+            b"zero" => Line::Setup(Setup::Zero),
+            b"poke" => Line::Setup(Setup::Write {
+                addr: self.next()?,
+                value: self.next()?,
+            }),
+            [b'w', b'-', ..] => Line::Setup(Setup::Part(self.part(name)?)),
+            [b'l', b'-', ..] => Line::Operation(Operation::Leaf(self.leaf(name)?)),
+            [b'p', b'-', ..] => Line::Operation(Operation::Poke(self.poke(name)?)),
+            _ => Line::Operation(Operation::Call(self.call(name)?)),
+        })
     }
 }
 
-// The line that stands in some bytes, without their end; nothing where they are empty or a comment alone.
+/// The line that stands in some bytes, without their end; nothing where they are empty or a comment alone.
 pub fn parse(bytes: &[u8]) -> Result<Option<Line>, Refusal> {
     let text = lex::before_comment(bytes);
     if let Some(k) = text.iter().position(|b| !lex::is_held(*b)) {

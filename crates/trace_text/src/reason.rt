@@ -1,46 +1,37 @@
-// Why a line is refused.
-use std::fmt;
+//! Why a line is refused.
+use thiserror::Error;
 
-#[derive(Clone, Copy, Debug)]
+#[derive(Clone, Copy, Debug, Error)]
 pub enum Reason {
+    #[error("no line of a trace has this name")]
     NoSuchLine,
+    #[error("no such exception (und, svc, hvc, smc, brk, data, insn, pca)")]
     NoSuchException,
+    #[error("an argument is missing")]
     Missing,
+    #[error("not a hexadecimal number (write it without 0x)")]
     NotNumber,
+    #[error("a number of more than 64 bits")]
     Above64,
+    #[error("a number of more than 32 bits, where 32 are the most")]
     Above32,
+    #[error("a number of more than 16 bits, where 16 are the most")]
     Above16,
+    #[error("a number of more than 8 bits, where 8 are the most")]
     Above8,
+    #[error("no kind of access (1 read, 2 write, 4 fetch)")]
     NotKind,
+    #[error("no regime (1, 2 or 3)")]
     NotRegime,
+    #[error("a byte that no line holds outside a comment")]
     NotAscii,
+    #[error("a line of more than 65000 bytes")]
     LongLine,
+    #[error("a window of more than 200000 bytes (2 MiB)")]
     LongWindow,
 }
 
-impl fmt::Display for Reason {
-    fn fmt<W: fmt::Write>(&self, f: &mut fmt::Formatter<W>) -> fmt::Result {
-        f.write_str(match self {
-            Reason::NoSuchLine => "no line of a trace has this name",
-            Reason::NoSuchException => {
-                "no such exception (und, svc, hvc, smc, brk, data, insn, pca)"
-            }
-            Reason::Missing => "an argument is missing",
-            Reason::NotNumber => "not a hexadecimal number (write it without 0x)",
-            Reason::Above64 => "a number of more than 64 bits",
-            Reason::Above32 => "a number of more than 32 bits, where 32 are the most",
-            Reason::Above16 => "a number of more than 16 bits, where 16 are the most",
-            Reason::Above8 => "a number of more than 8 bits, where 8 are the most",
-            Reason::NotKind => "no kind of access (1 read, 2 write, 4 fetch)",
-            Reason::NotRegime => "no regime (1, 2 or 3)",
-            Reason::NotAscii => "a byte that no line holds outside a comment",
-            Reason::LongLine => "a line of more than 65000 bytes",
-            Reason::LongWindow => "a window of more than 200000 bytes (2 MiB)",
-        })
-    }
-}
-
-// The reason, and the column of the word that is at fault, or of the line's end.
+/// The reason, and the column of the word that is at fault, or of the line's end, from 1.
 #[derive(Clone, Copy, Debug)]
 pub struct Refusal {
     pub column: usize,

@@ -1,41 +1,15 @@
-// A line as eight words of a record: its code, its arguments, and zeros.
+//! A line as eight words of a record: its code, its arguments, and zeros.
 use crate::line::{Leaf, Line, Operation, Poke, Setup};
 use call_words::op;
 use call_words::op::{DecodedCall, DecodedException};
-use exception::kind::Exception;
-use operations::call::Call;
 use walk::regime::Regime;
 
-// A regime by its number.
-pub fn regime(word: u64) -> Option<Regime> {
-    match word {
-        1 => Some(Regime::El1),
-        2 => Some(Regime::El2),
-        3 => Some(Regime::El3),
-        _ => None,
-    }
+fn regime(word: u64) -> Option<Regime> {
+    Regime::try_from(word).ok()
 }
 
 fn flag(word: u64) -> Option<bool> {
-    match word {
-        0 => Some(false),
-        1 => Some(true),
-        _ => None,
-    }
-}
-
-fn call(op: &[u64; 8]) -> Option<Call> {
-    match op::call_of(op) {
-        DecodedCall::Known(call) => Some(call),
-        DecodedCall::Unknown => None,
-    }
-}
-
-fn exception(code: u64, a: u64, b: u64, c: u64) -> Option<Exception> {
-    match op::exception_of(code, a, b, c) {
-        DecodedException::Known(e) => Some(e),
-        DecodedException::Unknown => None,
-    }
+    (word < 2).then_some(word == 1)
 }
 
 fn leaf(op: &[u64; 8]) -> Option<Leaf> {
@@ -53,19 +27,21 @@ fn leaf(op: &[u64; 8]) -> Option<Leaf> {
             to: b,
             spsel: flag(c)?,
         },
-        28 => Leaf::Syndrome {
-            from: a,
-            to: b,
-            pc: c,
-            exception: exception(d, e, f, g)?,
+        28 => match op::exception_of(d, e, f, g) {
+            DecodedException::Known(exception) => Leaf::Syndrome {
+                from: a,
+                to: b,
+                pc: c,
+                exception,
+            },
+            DecodedException::Unknown => return None,
         },
         _ => return None,
     })
 }
 
-fn poke(op: &[u64; 8]) -> Option<Poke> {
-    let value = op[1];
-    Some(match op[0] {
+fn poke(code: u64, value: u64) -> Option<Poke> {
+    Some(match code {
         40 => Poke::Level(value),
         41 => Poke::Pc(value),
         42 => Poke::Spsel(flag(value)?),
@@ -76,28 +52,28 @@ fn poke(op: &[u64; 8]) -> Option<Poke> {
     })
 }
 
-fn setup(op: &[u64; 8]) -> Option<Setup> {
-    Some(match op[0] {
+fn setup(code: u64, a: u64, b: u64) -> Option<Setup> {
+    Some(match code {
         60 => Setup::Fresh,
         61 => Setup::Window {
-            base: op[1],
-            len: op[2] as usize,
+            base: a,
+            len: b as usize,
         },
         62 => Setup::Zero,
-        63 => Setup::Write {
-            addr: op[1],
-            value: op[2],
-        },
+        63 => Setup::Write { addr: a, value: b },
         _ => return None,
     })
 }
 
-// The line that eight words name. A record has no writes of the core's words.
+/// The line that eight words name. A record has no writes of the core's words.
 pub fn line_of(op: &[u64; 8]) -> Option<Line> {
     match op[0] {
-        0..20 => Some(Line::Operation(Operation::Call(call(op)?))),
+        0..20 => match op::call_of(op) {
+            DecodedCall::Known(call) => Some(Line::Operation(Operation::Call(call))),
+            DecodedCall::Unknown => None,
+        },
         20..40 => Some(Line::Operation(Operation::Leaf(leaf(op)?))),
-        40..60 => Some(Line::Operation(Operation::Poke(poke(op)?))),
-        _ => Some(Line::Setup(setup(op)?)),
+        code @ 40..60 => Some(Line::Operation(Operation::Poke(poke(code, op[1])?))),
+        code => Some(Line::Setup(setup(code, op[1], op[2])?)),
     }
 }

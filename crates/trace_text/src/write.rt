@@ -1,30 +1,8 @@
-// Operations and answers in the oracle's text form.
+//! Operations in the oracle's text form.
 use crate::line::{Leaf, Operation, Poke};
 use exception::kind::Exception;
 use operations::call::Call;
 use std::fmt;
-use tlb::access::Kind;
-use walk::regime::Regime;
-
-// An answer, by its four words.
-#[derive(Clone, Copy)]
-pub struct Answer<'a>(pub &'a [u64; 4]);
-
-fn kind_number(kind: Kind) -> u64 {
-    match kind {
-        Kind::Read => 1,
-        Kind::Write => 2,
-        Kind::Fetch => 4,
-    }
-}
-
-fn regime_number(regime: Regime) -> u64 {
-    match regime {
-        Regime::El1 => 1,
-        Regime::El2 => 2,
-        Regime::El3 => 3,
-    }
-}
 
 fn exception<W: fmt::Write>(f: &mut fmt::Formatter<W>, e: Exception) -> fmt::Result {
     match e {
@@ -33,15 +11,13 @@ fn exception<W: fmt::Write>(f: &mut fmt::Formatter<W>, e: Exception) -> fmt::Res
         Exception::Hvc(imm) => write!(f, "hvc {imm:x}"),
         Exception::Smc(imm) => write!(f, "smc {imm:x}"),
         Exception::Brk(imm) => write!(f, "brk {imm:x}"),
-        Exception::DataAbort(a) => {
-            write!(
-                f,
-                "data {:x} {} {:x}",
-                a.addr,
-                u64::from(a.write),
-                a.fault.fsc
-            )
-        }
+        Exception::DataAbort(a) => write!(
+            f,
+            "data {:x} {} {:x}",
+            a.addr,
+            u64::from(a.write),
+            a.fault.fsc
+        ),
         Exception::InsnAbort(a) => write!(f, "insn {:x} {:x}", a.addr, a.fault.fsc),
         Exception::PcAlignment => f.write_str("pca"),
     }
@@ -49,16 +25,17 @@ fn exception<W: fmt::Write>(f: &mut fmt::Formatter<W>, e: Exception) -> fmt::Res
 
 fn call<W: fmt::Write>(f: &mut fmt::Formatter<W>, call: Call) -> fmt::Result {
     match call {
-        Call::Translate(kind, va) => write!(f, "tr {} {va:x}", kind_number(kind)),
+        Call::Translate(kind, va) => write!(f, "tr {} {:x}", u64::from(kind), va),
         Call::DataPa(va) => write!(f, "dpa {va:x}"),
         Call::FetchPa(va) => write!(f, "fpa {va:x}"),
         Call::Load(va, size) => write!(f, "ld {va:x} {size:x}"),
         Call::Store(va, size, value) => write!(f, "st {va:x} {size:x} {value:x}"),
         Call::Fetch(va) => write!(f, "if {va:x}"),
-        Call::System(at) => {
-            write!(f, "sys {:x} {:x} {:x}", at.op1, at.crn, at.crm)?;
-            write!(f, " {:x} {:x}", at.op2, at.rt)
-        }
+        Call::System(at) => write!(
+            f,
+            "sys {:x} {:x} {:x} {:x} {:x}",
+            at.op1, at.crn, at.crm, at.op2, at.rt
+        ),
         Call::Register(key, value) => write!(f, "reg {key:x} {value:x}"),
         Call::Level(level) => write!(f, "level {level:x}"),
         Call::Mark(on) => write!(f, "mark {}", u64::from(on)),
@@ -74,9 +51,9 @@ fn call<W: fmt::Write>(f: &mut fmt::Formatter<W>, call: Call) -> fmt::Result {
 fn leaf<W: fmt::Write>(f: &mut fmt::Formatter<W>, leaf: Leaf) -> fmt::Result {
     match leaf {
         Leaf::Asid => f.write_str("l-asid"),
-        Leaf::Stage1On(regime) => write!(f, "l-on {}", regime_number(regime)),
-        Leaf::Untag(regime, va) => write!(f, "l-untag {} {va:x}", regime_number(regime)),
-        Leaf::Walk(regime, va) => write!(f, "l-walk {} {va:x}", regime_number(regime)),
+        Leaf::Stage1On(regime) => write!(f, "l-on {}", u64::from(regime)),
+        Leaf::Untag(regime, va) => write!(f, "l-untag {} {:x}", u64::from(regime), va),
+        Leaf::Walk(regime, va) => write!(f, "l-walk {} {:x}", u64::from(regime), va),
         Leaf::PaBits(size) => write!(f, "l-bits {size:x}"),
         Leaf::Permissions(bits) => write!(f, "l-perm {bits:x}"),
         Leaf::Bank(key) => write!(f, "l-bank {key:x}"),
@@ -113,37 +90,6 @@ impl fmt::Display for Operation {
             Operation::Call(c) => call(f, c),
             Operation::Leaf(l) => leaf(f, l),
             Operation::Poke(p) => poke(f, p),
-        }
-    }
-}
-
-// A walk's leaf: address, permissions, level, attribute index, shareability, NS and global.
-fn walked<W: fmt::Write>(f: &mut fmt::Formatter<W>, ans: &[u64; 4]) -> fmt::Result {
-    let [_, oa, rights, kind] = *ans;
-    write!(f, "leaf {oa:x} {:x} {}", rights % 256, rights / 256 % 256)?;
-    write!(f, " {} {}", kind % 256, kind / 256 % 256)?;
-    write!(f, " {} {}", kind / 0x1_0000 % 2, kind / 0x100_0000 % 2)
-}
-
-impl fmt::Display for Answer<'_> {
-    fn fmt<W: fmt::Write>(&self, f: &mut fmt::Formatter<W>) -> fmt::Result {
-        let [code, a, b, c] = *self.0;
-        match code {
-            0 => f.write_str("ok"),
-            1 => write!(f, "val {a:x}"),
-            2 => f.write_str("none"),
-            3 => walked(f, self.0),
-            4 => write!(f, "pair {a:x} {b:x}"),
-            5 => write!(f, "no {a}"),
-            6 => f.write_str("undefined"),
-            7 => f.write_str("unimplemented"),
-            8 => write!(f, "fault {a:x} {:02x}", b % 256),
-            // address, whether a write, and status
-            9 => write!(f, "data {a:x} {} {:02x}", c % 2, b % 256),
-            10 => write!(f, "insn {a:x} {:02x}", b % 256),
-            // how many of a census's counts are not 0, and the digest of all
-            11 => write!(f, "counts {a:x}:{b:016x}"),
-            _ => f.write_str("panic"),
         }
     }
 }

@@ -1,12 +1,12 @@
 -- The translation regimes, and what turns stage 1 on: DDI 0487, S1TranslationRegime and AArch64.FirstStageTranslate of ARMv8.0. Written from
 -- knowledge of them; the document itself was not at hand. Letters with a number are rows of docs/DIFFERENCES.md. A `Bank` holds the registers of one
 -- regime.
-use Rattle.std.specs.Prelude.{if◌then◌else◌, Bool, true, false, not, ◌&&◌, ◌||◌, ℕ, eqb}
+use Rattle.std.specs.Prelude.{if◌then◌else◌, Bool, true, false, not, ◌&&◌, ◌||◌, ℕ, Result, Ok, Err, eqb}
 use Rattle.word.specs.Bits.{bit_on, bit0}
 use Rattle.sysreg.specs.Regs.{control_at}
 use Rattle.sysreg.specs.declared.{regs.Control.Control, regs.El.El}
 use Rattle.sysreg.specs.declared.regs.ControlReg.TheVariants.{Sctlr, Tcr, Ttbr0, Ttbr1, Scr, Hcr}
-use Rattle.walk.specs.declared.{regime.Regime.Regime, regime.Bank.Bank}
+use Rattle.walk.specs.declared.{regime.Regime.Regime, regime.Bank.Bank, regime.NoSuchRegime.NoSuchRegime}
 use Rattle.walk.specs.declared.regime.Regime.TheVariants.{El1, El2, El3}
 
 -- the regime of an exception level: EL0 shares that of EL1. M15: v8.0 has no EL2 in Secure state, and so no such regime there. M12: SCR_EL3.RW and
@@ -19,6 +19,15 @@ abbrev pub own_level : Regime → El
 own_level El1 = El.El1
 own_level El2 = El.El2
 own_level El3 = El.El3
+
+-- the number of a regime, and the regime of a number
+abbrev pub number_of : Regime → ℕ
+number_of El1 = 1
+number_of El2 = 2
+number_of El3 = 3
+
+abbrev pub regime_at : ℕ → Result Regime NoSuchRegime
+regime_at n = if eqb n 1 then Ok El1 else if eqb n 2 then Ok El2 else if eqb n 3 then Ok El3 else Err (record { 0 = n })
 
 -- SCTLR, TCR and TTBR0 of the regime's own level; TTBR1_EL1, SCR_EL3 and HCR_EL2
 abbrev pub bank_of : Control → Regime → Bank

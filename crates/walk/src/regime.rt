@@ -1,7 +1,7 @@
 // The translation regimes, their registers, and what of an address a walk sees.
 ghost use Rattle.std.specs.Prelude.{◌≡◌, ◌<◌};
 ghost use Rattle.sysreg.specs.Regs.{level_of};
-ghost use Rattle.walk.specs.Regime.{bank_of, own_level, regime_of, single_priv, stage1_on};
+ghost use Rattle.walk.specs.Regime.{bank_of, number_of, own_level, regime_at, regime_of, single_priv, stage1_on};
 ghost use Rattle.walk.specs.Tag.{untagged};
 
 use sysreg::regs::Control;
@@ -32,6 +32,33 @@ pub struct Bank {
     pub ttbr1_el1: u64,
     pub scr_el3: u64,
     pub hcr_el2: u64,
+}
+
+/// A number other than 1, 2 and 3, which name a regime.
+#[derive(Clone, Copy, Debug)]
+pub struct NoSuchRegime(pub u64);
+
+impl TryFrom<u64> for Regime {
+    type Error = NoSuchRegime;
+
+    ghost try_from_gives = { λ number regime. regime ≡ regime_at number };
+
+    fn try_from(number: u64) -> Result<Regime, NoSuchRegime> {
+        match number {
+            1 => Ok(Regime::El1),
+            2 => Ok(Regime::El2),
+            3 => Ok(Regime::El3),
+            _ => Err(NoSuchRegime(number)),
+        }
+    }
+}
+
+impl From<Regime> for u64 {
+    ghost from_gives = { λ regime number. number ≡ number_of regime };
+
+    fn from(regime: Regime) -> u64 {
+        regime.index() as u64
+    }
 }
 
 impl Regime {
