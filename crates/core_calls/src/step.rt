@@ -32,7 +32,7 @@ pub fn step(core: &mut Core, op: &[u64; 8], base: u64, ram: &mut [u8], ans: &mut
 {
     match op::call_of(op) {
         DecodedCall::Known(call) => {
-            let answer = cpu::step::step(core, base, ram, call);
+            let answer = core.step(base, ram, call);
             *ans = reply::words(answer);
             0
         }

@@ -5,7 +5,7 @@ ghost use Rattle.cpu.specs.Fit.{refit_of};
 use sysreg::regs::Control;
 use tlb::Tlb;
 
-// Where the shape changed, a flush; then, where the ASID differs from the cache's, a retag.
+/// Where the shape changed, a flush; then, where the ASID differs from the cache's, a retag.
 #[inline(always)]
 #[tactic(auto, unfolding(crate::specs::Fit::refit_of, tlb::specs::Maintenance::reshaped_of, tlb::specs::Maintenance::retagged_of))]
 pub fn refit(t: &mut Tlb, before: Control, after: Control)

@@ -8,29 +8,31 @@ use operations::call::Reply;
 use operations::check;
 use walk::regime::{Bank, Regime};
 
-// The 129 counts of a census, all 0 where it is refused, and its reply.
+/// The 129 counts of a census, all 0 where it is refused, and its reply.
 #[derive(Clone, Copy)]
 pub struct Censused {
     pub counts: [u64; 129],
     pub reply: Reply,
 }
 
-// The census of so many pages from the page of first, at the core's level.
-#[tactic(auto, unfolding(crate::specs::Inspect::census_by, crate::specs::Inspect::counts_after, crate::specs::Step::step_of, crate::specs::Step::run_of))]
-pub fn census(core: &Core, base: u64, ram: &[u8], first: u64, pages: u64) -> Censused
-    ensures { result ≡ census_by core.now base ram.now first pages }
-{
-    let level = core.privilege.level;
-    let mut counts = [0; 129];
-    if let Err(check) = check::census(level, base, ram.len() as u64, first, pages) {
-        let reply = Reply::from(check);
-        return Censused { counts, reply };
-    }
-    let regime = Regime::of_level(level);
-    let s = Bank::new(&core.control, regime);
-    count::count(s, regime, first, pages, base, ram, &mut counts);
-    Censused {
-        counts,
-        reply: Reply::Done,
+impl Core {
+    /// The census of so many pages from the page of first, at the core's level.
+    #[tactic(auto, unfolding(crate::specs::Inspect::census_by, crate::specs::Inspect::counts_after, crate::specs::Step::step_of, crate::specs::Step::run_of))]
+    pub fn census(&self, base: u64, ram: &[u8], first: u64, pages: u64) -> Censused
+        ensures { result ≡ census_by self.now base ram.now first pages }
+    {
+        let level = self.privilege.level;
+        let mut counts = [0; 129];
+        if let Err(check) = check::census(level, base, ram.len() as u64, first, pages) {
+            let reply = Reply::from(check);
+            return Censused { counts, reply };
+        }
+        let regime = Regime::of_level(level);
+        let s = Bank::new(&self.control, regime);
+        count::count(s, regime, first, pages, base, ram, &mut counts);
+        Censused {
+            counts,
+            reply: Reply::Done,
+        }
     }
 }

@@ -9,12 +9,12 @@ use tlb::Tlb;
 use tlb::access::Privilege;
 use walk::regime::{Bank, Regime};
 
-pub mod fit;
+mod fit;
 pub mod inspect;
-pub mod memory;
-pub mod registers;
-pub mod step;
-pub mod sys;
+mod memory;
+mod registers;
+mod step;
+mod sys;
 pub mod theorems;
 
 #[derive(Clone, Copy)]
@@ -23,11 +23,11 @@ pub struct Core {
     pub flags: Flags,
     pub pc: u64,
     pub x: [u64; 31],
-    // all registers that translation reads, and the others
+    /// all registers that translation reads, and the others
     pub control: Control,
     pub sys: SysRegs,
     pub tlb: Tlb,
-    // the physical address of the last load, and that of the last external abort
+    /// the physical address of the last load, and that of the last external abort
     pub last_pa: u64,
     pub abort_pa: u64,
 }
@@ -35,7 +35,7 @@ pub struct Core {
 impl Core {
     ghost use Rattle.cpu.specs.Core.{fresh_core, reg_of, set_reg, bank_now};
 
-    // After reset.
+    /// After reset.
     #[tactic(auto, unfolding(crate::specs::Core::fresh_core, crate::specs::Bare::zeros))]
     pub fn new() -> Self
         ensures { result ≡ fresh_core }
@@ -56,7 +56,7 @@ impl Core {
         }
     }
 
-    // A general register. Register 31 reads as zero.
+    /// A general register. Register 31 reads as zero.
     #[tactic(auto, unfolding(crate::specs::Core::reg_of))]
     pub fn reg(&self, n: u64) -> u64
         ensures { result ≡ reg_of self.now n }
@@ -64,7 +64,7 @@ impl Core {
         if n < 31 { self.x[n as usize] } else { 0 }
     }
 
-    // Register 31 drops what is written.
+    /// Register 31 drops what is written.
     #[tactic(auto, unfolding(crate::specs::Core::set_reg))]
     pub fn set_reg(&mut self, n: u64, value: u64)
         ensures { self.new ≡ set_reg self.old n value }
@@ -74,7 +74,7 @@ impl Core {
         }
     }
 
-    // The registers of the level's regime.
+    /// The registers of the level's regime.
     pub fn bank(&self) -> Bank
         ensures { result ≡ bank_now self.now }
     {

@@ -28,7 +28,7 @@ impl Core {
         }
     }
 
-    // The answer of a translation that no hint serves, where no walk is needed. RAM is read by no code here.
+    /// The answer of a translation that no hint serves, where no walk is needed. RAM is read by no code here.
     #[inline(always)]
     #[tactic(auto, unfolding(crate::specs::Memory::past_hint_of, crate::specs::Translations::past_hint_step, crate::specs::Core::after_access))]
     pub fn at_hand(
@@ -45,7 +45,7 @@ impl Core {
         self.tlb.at_hand(a, base, ram)
     }
 
-    // A translation by a walk: where one is needed, the translation.
+    /// A translation by a walk: where one is needed, the translation.
     #[inline(always)]
     #[tactic(auto, unfolding(crate::specs::Memory::past_hint_of, crate::specs::Translations::past_hint_step, crate::specs::Core::after_access))]
     pub fn by_walk(&mut self, base: u64, ram: &[u8], va: u64, kind: Kind) -> Result<u64, Fault>
@@ -68,8 +68,8 @@ impl Core {
         }
     }
 
-    // Where an access of the kind to va goes: the data hint first, which is asked once. The fetch hint is neither used
-    // nor set.
+    /// Where an access of the kind to va goes: the data hint first, which is asked once. The fetch hint is neither used
+    /// nor set.
     #[tactic(auto, unfolding(crate::specs::Memory::translate_of, crate::specs::Memory::stepped_now, crate::specs::Memory::past_hint_of, crate::specs::Translations::translate_in, crate::specs::Translations::past_hint_step, crate::specs::Core::after_access))]
     pub fn translate(&mut self, base: u64, ram: &[u8], va: u64, kind: Kind) -> Result<u64, Fault>
         ensures { record { core = self.new; answer = result } ≡ translate_of self.old (word_at base ram.now 8) va kind }
@@ -90,8 +90,8 @@ impl Core {
         self.tlb.translate_fetch(a, base, ram)
     }
 
-    // The translations of an access, before a byte moves: one, or two where it crosses a page. The first one's effects
-    // remain where the second faults.
+    /// The translations of an access, before a byte moves: one, or two where it crosses a page. The first one's effects
+    /// remain where the second faults.
     #[tactic(auto, unfolding(crate::specs::Memory::translate_access_of, crate::specs::Memory::located_now, crate::specs::Translations::located_of, crate::specs::Memory::translate_of, crate::specs::Memory::stepped_now, crate::specs::Core::after_access))]
     pub fn translate_access(
         &mut self,
@@ -118,7 +118,7 @@ impl Core {
         Ok(Place::Split(Pages { in_page, pa, pa2 }))
     }
 
-    // A load.
+    /// A load.
     #[tactic(auto, unfolding(crate::specs::Memory::read_of, crate::specs::Memory::translate_access_of, crate::specs::Core::after_access))]
     pub fn read(&mut self, base: u64, ram: &[u8], va: u64, width: Width) -> Result<u64, Stop>
         ensures { record { core = self.new; answer = result } ≡ read_of self.old base ram.now va (bytes_in width) }
@@ -130,7 +130,7 @@ impl Core {
         end.answer
     }
 
-    // A store of the low bytes of a value.
+    /// A store of the low bytes of a value.
     #[tactic(auto, unfolding(crate::specs::Memory::write_of, crate::specs::Memory::ram_after_write, crate::specs::Memory::translate_access_of, crate::specs::Core::after_access), using(crate::proofs::Ram::len))]
     pub fn write(
         &mut self,
@@ -150,7 +150,7 @@ impl Core {
         end.answer
     }
 
-    // An instruction, by the fetch hint first.
+    /// An instruction, by the fetch hint first.
     #[tactic(auto, unfolding(crate::specs::Memory::fetch_of, crate::specs::Memory::translate_fetch_of, crate::specs::Core::after_access))]
     pub fn fetch(&mut self, base: u64, ram: &[u8], va: u64) -> Result<u32, Exception>
         ensures { record { core = self.new; answer = result } ≡ fetch_of self.old base ram.now va }
@@ -161,7 +161,7 @@ impl Core {
         end.answer
     }
 
-    // Where a fetch of va goes, by the same hint, which a new page refreshes.
+    /// Where a fetch of va goes, by the same hint, which a new page refreshes.
     #[tactic(auto, unfolding(crate::specs::Memory::fetch_pa_of, crate::specs::Memory::translate_fetch_of))]
     pub fn fetch_pa(&mut self, base: u64, ram: &[u8], va: u64) -> Option<u64>
         ensures { record { core = self.new; answer = result } ≡ fetch_pa_of self.old (word_at base ram.now 8) va }
@@ -169,7 +169,7 @@ impl Core {
         self.translate_fetch(base, ram, va).ok()
     }
 
-    // Where a data read of va goes.
+    /// Where a data read of va goes.
     #[tactic(auto, unfolding(crate::specs::Memory::data_pa_of, crate::specs::Memory::translate_of))]
     pub fn data_pa(&mut self, base: u64, ram: &[u8], va: u64) -> Option<u64>
         ensures { record { core = self.new; answer = result } ≡ data_pa_of self.old (word_at base ram.now 8) va }

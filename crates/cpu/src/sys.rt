@@ -11,63 +11,65 @@ use system::decode::{AtForm, Encoding, SysOp};
 use system::{decode, par, tlbi};
 use word::ram::Width;
 
-// AT: a fresh walk into PAR_EL1.
-#[inline(always)]
-#[tactic(auto, unfolding(crate::specs::System::at_of, crate::specs::System::with_par))]
-pub fn at(core: &mut Core, base: u64, ram: &[u8], form: AtForm, va: u64)
-    ensures { core.new ≡ at_of core.old (word_at base ram.now 8) form va }
-{
-    let mair = core.sys.mair[form.regime.index()];
-    core.sys.par_el1 = par::at(&core.control, mair, form, va, base, ram);
-}
-
-// TLBI; the Inner Shareable forms reach the other cores.
-#[tactic(auto, unfolding(crate::specs::System::tlbi_core, tlb::specs::Maintenance::invalidated_of, crate::specs::Core::after_access))]
-pub fn tlbi(core: &mut Core, e: Encoding, x: u64)
-    ensures { core.new ≡ tlbi_core core.old e.op1 e.crm e.op2 x }
-{
-    let what = tlbi::tlbi(&core.control, e, x);
-    core.tlb.invalidate(what);
-    if e.crm == 3 {
-        core.tlb.broadcast(what);
+impl Core {
+    /// AT: a fresh walk into PAR_EL1.
+    #[inline(always)]
+    #[tactic(auto, unfolding(crate::specs::System::at_of, crate::specs::System::with_par))]
+    pub fn at(&mut self, base: u64, ram: &[u8], form: AtForm, va: u64)
+        ensures { self.new ≡ at_of self.old (word_at base ram.now 8) form va }
+    {
+        let mair = self.sys.mair[form.regime.index()];
+        self.sys.par_el1 = par::at(&self.control, mair, form, va, base, ram);
     }
-}
 
-// The n stores of a zeroing from va on, up to the first that stops.
-#[tactic(auto, using(crate::proofs::Zeroing::zero_steps))]
-fn zero_from(core: &mut Core, base: u64, ram: &mut [u8], va: u64, n: u64) -> Result<(), Stop>
-    ensures value { record { core = core.new; answer = result } ≡ zero_of n core.old base ram.old va }
-    ensures ram_after { ram.new ≡ zero_ram n core.old base ram.old va }
-{
-    if n == 0 {
-        return Ok(());
+    /// TLBI; the Inner Shareable forms reach the other cores.
+    #[tactic(auto, unfolding(crate::specs::System::tlbi_core, tlb::specs::Maintenance::invalidated_of, crate::specs::Core::after_access))]
+    pub fn tlbi(&mut self, e: Encoding, x: u64)
+        ensures { self.new ≡ tlbi_core self.old e.op1 e.crm e.op2 x }
+    {
+        let what = tlbi::tlbi(&self.control, e, x);
+        self.tlb.invalidate(what);
+        if e.crm == 3 {
+            self.tlb.broadcast(what);
+        }
     }
-    core.write(base, ram, va, Width::Double, 0)?;
-    zero_from(core, base, ram, va.wrapping_add(8), n - 1)
-}
 
-// DC ZVA: 64 bytes, aligned.
-pub fn zva(core: &mut Core, base: u64, ram: &mut [u8], x: u64) -> Result<(), Stop>
-    ensures value { record { core = core.new; answer = result } ≡ zero_of 8 core.old base ram.old (align_down x 6) }
-    ensures ram_after { ram.new ≡ zero_ram 8 core.old base ram.old (align_down x 6) }
-{
-    zero_from(core, base, ram, x & !63, 8)
-}
-
-// A system operation.
-#[tactic(auto, unfolding(crate::specs::System::sys_of, crate::specs::System::sys_ram))]
-pub fn sys(core: &mut Core, base: u64, ram: &mut [u8], e: Encoding) -> Result<(), Stop>
-    ensures value { record { core = core.new; answer = result } ≡ sys_of core.old base ram.old e.op1 e.crn e.crm e.op2 e.rt }
-    ensures ram_after { ram.new ≡ sys_ram core.old base ram.old e.op1 e.crn e.crm e.op2 e.rt }
-{
-    let x = core.reg(e.rt);
-    match decode::decode(core.privilege.level, e) {
-        SysOp::At(form) => at(core, base, ram, form, x),
-        SysOp::Tlbi => tlbi(core, e, x),
-        SysOp::Zva => return zva(core, base, ram, x),
-        SysOp::Nothing => {}
-        SysOp::Undefined => return Err(Stop::Exception(Exception::Undefined)),
-        SysOp::Unimplemented => return Err(Stop::Unimplemented),
+    // The n stores of a zeroing from va on, up to the first that stops.
+    #[tactic(auto, using(crate::proofs::Zeroing::zero_steps))]
+    fn zero_from(&mut self, base: u64, ram: &mut [u8], va: u64, n: u64) -> Result<(), Stop>
+        ensures value { record { core = self.new; answer = result } ≡ zero_of n self.old base ram.old va }
+        ensures ram_after { ram.new ≡ zero_ram n self.old base ram.old va }
+    {
+        if n == 0 {
+            return Ok(());
+        }
+        self.write(base, ram, va, Width::Double, 0)?;
+        self.zero_from(base, ram, va.wrapping_add(8), n - 1)
     }
-    Ok(())
+
+    /// DC ZVA: 64 bytes, aligned.
+    pub fn zva(&mut self, base: u64, ram: &mut [u8], x: u64) -> Result<(), Stop>
+        ensures value { record { core = self.new; answer = result } ≡ zero_of 8 self.old base ram.old (align_down x 6) }
+        ensures ram_after { ram.new ≡ zero_ram 8 self.old base ram.old (align_down x 6) }
+    {
+        self.zero_from(base, ram, x & !63, 8)
+    }
+
+    /// A system operation.
+    #[tactic(auto, unfolding(crate::specs::System::sys_of, crate::specs::System::sys_ram))]
+    pub fn sys(&mut self, base: u64, ram: &mut [u8], e: Encoding) -> Result<(), Stop>
+        ensures value { record { core = self.new; answer = result } ≡ sys_of self.old base ram.old e.op1 e.crn e.crm e.op2 e.rt }
+        ensures ram_after { ram.new ≡ sys_ram self.old base ram.old e.op1 e.crn e.crm e.op2 e.rt }
+    {
+        let x = self.reg(e.rt);
+        match decode::decode(self.privilege.level, e) {
+            SysOp::At(form) => self.at(base, ram, form, x),
+            SysOp::Tlbi => self.tlbi(e, x),
+            SysOp::Zva => return self.zva(base, ram, x),
+            SysOp::Nothing => {}
+            SysOp::Undefined => return Err(Stop::Exception(Exception::Undefined)),
+            SysOp::Unimplemented => return Err(Stop::Unimplemented),
+        }
+        Ok(())
+    }
 }

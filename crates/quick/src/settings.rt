@@ -5,7 +5,7 @@ ghost use Rattle.call_words.specs.Ops.{key_of, mark_call};
 ghost use Rattle.quick.specs.Says.{Sets};
 
 use call_words::op;
-use cpu::{Core, registers};
+use cpu::Core;
 use exception::kind::Exception;
 use operations::check;
 use sysreg::write::WriteError;
@@ -16,7 +16,7 @@ pub fn register(core: &mut Core, key: u64, value: u64) -> u64
 {
     let known = op::key_of(key);
     match check::register(core.privilege.level, known) {
-        Ok(()) => match registers::write_register(core, known, value) {
+        Ok(()) => match core.write_reg(known, value) {
             Ok(()) => 0,
             Err(WriteError::Undefined) => 65,
             Err(WriteError::NoRegister) => 6,
@@ -35,7 +35,7 @@ pub fn level(core: &mut Core, level: u64) -> u64
     if 3 < level {
         return 1;
     }
-    registers::set_level(core, level as u8);
+    core.set_level(level as u8);
     0
 }
 
@@ -49,7 +49,7 @@ pub fn mark(core: &mut Core, mark: u64) -> u64
     if 3 < core.privilege.level {
         return 1;
     }
-    registers::set_mark(core, mark == 1);
+    core.set_mark(mark == 1);
     0
 }
 
@@ -74,6 +74,6 @@ pub fn abort(core: &mut Core, e: Exception) -> u64
     if 3 < core.privilege.level {
         return 1;
     }
-    registers::take_sync(core, e);
+    core.take_sync(e);
     0
 }

@@ -8,7 +8,7 @@ ghost use Rattle.cpu.specs.Step.{step_of, ram_after, after_store};
 ghost use Rattle.quick.specs.Says.{Tells, Cleared};
 
 use call_words::reply;
-use cpu::{Core, sys};
+use cpu::Core;
 use operations::check;
 use system::decode;
 use system::decode::{Encoding, SysOp};
@@ -36,7 +36,7 @@ fn zva(core: &mut Core, ans: &mut u64, base: u64, ram: &mut [u8], x: u64) -> u64
     if clear(core, base, ram, x - x % 64) {
         return 0;
     }
-    let answer = sys::zva(core, base, ram, x);
+    let answer = core.zva(base, ram, x);
     reply::stored(answer, ans)
 }
 
@@ -45,7 +45,7 @@ fn zva(core: &mut Core, ans: &mut u64, base: u64, ram: &mut [u8], x: u64) -> u64
 fn tlbi(core: &mut Core, e: Encoding, x: u64)
     ensures { core.new ≡ tlbi_core core.old e.op1 e.crm e.op2 x }
 {
-    sys::tlbi(core, e, x);
+    core.tlbi(e, x);
 }
 
 // The operation past its checks.
@@ -58,7 +58,7 @@ fn operate(core: &mut Core, e: Encoding, ans: &mut u64, base: u64, ram: &mut [u8
     let x = core.reg(e.rt);
     match decode::decode(core.privilege.level, e) {
         SysOp::At(form) => {
-            sys::at(core, base, ram, form, x);
+            core.at(base, ram, form, x);
             0
         }
         SysOp::Tlbi => {

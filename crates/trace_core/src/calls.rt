@@ -121,6 +121,6 @@ pub fn carry_out(core: &mut Core, base: u64, ram: &mut [u8], call: Call) -> Repl
             let n = memory::fetch(core, va, &mut value, base, ram);
             reply(n, Reply::Value(value), insn_abort(n, va))
         }
-        _ => cpu::step::step(core, base, ram, call),
+        _ => core.step(base, ram, call),
     }
 }

@@ -56,7 +56,7 @@ impl Told {
 
     /// The core's own answer to the translation.
     pub fn of_core(core: &mut Core, base: u64, ram: &mut [u8], kind: Kind, va: u64) -> Self {
-        match cpu::step::step(core, base, ram, Call::Translate(kind, va)) {
+        match core.step(base, ram, Call::Translate(kind, va)) {
             Reply::Value(pa) => Told::Address(pa),
             Reply::Fault { fault, .. } => Told::Fault(fault.fsc),
             Reply::Refused(check) => Told::Nothing(check),

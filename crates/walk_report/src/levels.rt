@@ -126,7 +126,9 @@ impl fmt::Display for Steps<'_> {
         self.show_range(f)?;
         let mut tables = 0;
         for n in 0..4u8 {
-            let visit = self.bank.visit(self.regime, self.va, self.base, self.ram, n);
+            let visit = self
+                .bank
+                .visit(self.regime, self.va, self.base, self.ram, n);
             if let Some(visit) = visit {
                 self.show_level(f, visit)?;
                 tables = n + 1;

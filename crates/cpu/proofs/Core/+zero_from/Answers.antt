@@ -1,7 +1,7 @@
 -- A store that stops ends the zeroing.
 use Rattle.std.proofs.Common.{rules}
 use Rattle.cpu.proofs.Zeroing.{stops-is, stops-ram}
-use Rattle.cpu.proofs.sys.+zero_from.Goals as goal
+use Rattle.cpu.proofs.Core.+zero_from.Goals as goal
 
 pub returns-in_err-write-clause-value : goal.returns-in_err-write-clause-value
 returns-in_err-write-clause-value t c = search (stops-is, rules)
