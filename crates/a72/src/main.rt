@@ -132,7 +132,7 @@ fn command<R: Files + AllocGlobal, W: Write>(
         "counters" => {
             let path = arguments::only_path(rest, "counters wants one TRACE")?;
             let machine = run::silently(rt, path)?;
-            report::show(out, &machine.core.tlb.counts)?;
+            report::show(out, &machine.core.tlb)?;
         }
         "walk" => walk_command(rt, out, rest)?,
         "census" => census_command(rt, out, rest, terminal)?,

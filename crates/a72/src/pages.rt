@@ -24,12 +24,7 @@ pub fn census<R: Files + AllocGlobal, W: Write>(
         settings::level(&mut machine.core, level);
     }
     let ram = machine.ram.as_slice();
-<<<<<<< HEAD
-    let census = Census::new(&machine.core, machine.base, ram, q.first, q.pages)?;
+    let census = Census::new(&machine.core, machine.base, ram, first, pages)?;
     census.show(out, rt.alloc(), form)?;
-=======
-    let found = report::census(&machine.core, machine.base, ram, first, pages)?;
-    report::show(out, rt.alloc(), &found, form)?;
->>>>>>> 5fea152f (Traces and records: an answer is an enum with its words and its text, numbers become enums by TryFrom, refusals by thiserror)
     Ok(())
 }

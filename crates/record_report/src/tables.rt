@@ -1,10 +1,5 @@
-<<<<<<< HEAD
-// Names of kinds of operation, of answers, and of classes of difference (outside/README.md).
-use operations::call::Call;
-=======
 //! Names of kinds of operation, of answers, and of classes of difference (outside/README.md).
-use operations::call::{Call, Encoding};
->>>>>>> 5fea152f (Traces and records: an answer is an enum with its words and its text, numbers become enums by TryFrom, refusals by thiserror)
+use operations::call::Call;
 use std::fmt;
 use system::decode::Encoding;
 use tlb::access::Kind as Access;

@@ -17,46 +17,13 @@ pub const AFTER: usize = 30;
 fn words_after(machine: &mut Machine, answer: Answer) -> [(&'static str, u64); AFTER] {
     let ram = machine.window_digest();
     let core = &machine.core;
-<<<<<<< HEAD
-    let levels = &core.tlb.levels;
-=======
     let [code, word1, word2, word3] = answer.words();
     let [el0, el1, el2, el3] = core.tlb.levels;
-    let current = core.tlb.cache.current;
->>>>>>> 5fea152f (Traces and records: an answer is an enum with its words and its text, numbers become enums by TryFrom, refusals by thiserror)
     let mut pending = [0; 2];
     read::pending(core, &mut pending);
     let entries = digest::parts::entries(core);
     let hints = digest::parts::hints(core);
     [
-<<<<<<< HEAD
-        levels[0].hits,
-        levels[0].walks,
-        levels[1].hits,
-        levels[1].walks,
-        levels[2].hits,
-        levels[2].walks,
-        levels[3].hits,
-        levels[3].walks,
-        core.tlb.flushes,
-        core.tlb.drops,
-        core.tlb.epoch,
-        pending[0],
-        pending[1],
-        core.last_pa,
-        core.abort_pa,
-        machine.level(),
-        u64::from(core.privilege.unprivileged),
-        u64::from(core.tlb.generation),
-        u64::from(core.tlb.asid),
-        core.sys.par_el1,
-        entries.count,
-        hints.count,
-        digest::parts::registers(core),
-        entries.digest,
-        hints.digest,
-        ram,
-=======
         ("the answer's code", code),
         ("the answer's word 1", word1),
         ("the answer's word 2", word2),
@@ -78,8 +45,8 @@ fn words_after(machine: &mut Machine, answer: Answer) -> [(&'static str, u64); A
         ("abort_pa", core.abort_pa),
         ("level", machine.level()),
         ("unprivileged", u64::from(core.privilege.unprivileged)),
-        ("generation", u64::from(current.generation)),
-        ("ASID", u64::from(current.asid)),
+        ("generation", u64::from(core.tlb.generation)),
+        ("ASID", u64::from(core.tlb.asid)),
         ("PAR_EL1", core.sys.par_el1),
         ("live entries", entries.count),
         ("hints", hints.count),
@@ -87,7 +54,6 @@ fn words_after(machine: &mut Machine, answer: Answer) -> [(&'static str, u64); A
         ("digest of entries", entries.digest),
         ("digest of hints", hints.digest),
         ("digest of RAM", ram),
->>>>>>> 5fea152f (Traces and records: an answer is an enum with its words and its text, numbers become enums by TryFrom, refusals by thiserror)
     ]
 }
 

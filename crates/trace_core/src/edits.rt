@@ -10,31 +10,16 @@ use trace_text::line::{Part, Poke};
 
 // An entry when the generation is overwritten: a live one stays live; of the others those that were and are of a later
 // generation stay, if they may.
-<<<<<<< HEAD
-fn moved(e: Entry, from: u32, to: u32, later: bool) -> Entry {
-    let live = e.generation == from;
-    let kept = later & (from < e.generation) & (to < e.generation);
-    if live {
-        return Entry {
-            generation: to,
-            ..e
-        };
-    }
-    if kept { e } else { Entry::default() }
-}
-
-fn move_generation(core: &mut Core, to: u32, later: bool) {
-    let from = core.tlb.generation;
-    for e in core.tlb.entries.iter_mut() {
-        *e = moved(*e, from, to, later);
-=======
 fn moved(e: Entry, current: u32, to: u32, later: bool) -> Entry {
     if e.generation == current {
-        e.stamped(to)
+        Entry {
+            generation: to,
+            ..e
+        }
     } else if later && current < e.generation && to < e.generation {
         e
     } else {
-        Entry::blank()
+        Entry::default()
     }
 }
 
@@ -42,13 +27,11 @@ fn move_generation(core: &mut Core, to: u32, later: bool) {
     let current = core.tlb.generation;
     for e in core.tlb.entries.iter_mut() {
         *e = moved(*e, current, to, later);
->>>>>>> 5fea152f (Traces and records: an answer is an enum with its words and its text, numbers become enums by TryFrom, refusals by thiserror)
     }
     core.tlb.generation = to;
 }
 
 // Each counter at a value: by level EL0's alone, so that the sums are the value too.
-<<<<<<< HEAD
 fn put_counters(tlb: &mut Tlb, value: u64) {
     tlb.levels = [Tally::default(); 4];
     tlb.levels[0] = Tally {
@@ -58,20 +41,6 @@ fn put_counters(tlb: &mut Tlb, value: u64) {
     tlb.flushes = value;
     tlb.drops = value;
     tlb.epoch = value;
-=======
-fn counts_at(value: u64) -> Counts {
-    let mut levels = [Tally::new(); 4];
-    levels[0] = Tally {
-        hits: value,
-        walks: value,
-    };
-    Counts {
-        levels,
-        flushes: value,
-        drops: value,
-        epoch: value,
-    }
->>>>>>> 5fea152f (Traces and records: an answer is an enum with its words and its text, numbers become enums by TryFrom, refusals by thiserror)
 }
 
 // The bits of a word that a line sets.
@@ -97,21 +66,8 @@ fn put_word(core: &mut Core, place: usize, value: u64) {
 
 // No core holds a generation of more than 32 bits: an entry of one is blank.
 fn entry_of(tag: u64, generation: u64, bits: u64, pa: u64) -> Entry {
-<<<<<<< HEAD
-    match u32::try_from(generation) {
-        Ok(generation) => Entry {
-            tag,
-            generation,
-            perms: (bits % 256) as u8,
-            level: (bits / 256 % 256) as u8,
-            global: bits / 65536 % 2 == 1,
-            asid: (bits / 0x1_0000_0000 % 0x1_0000) as u16,
-            pa,
-        },
-        Err(_) => Entry::default(),
-=======
     let Ok(generation) = u32::try_from(generation) else {
-        return Entry::blank();
+        return Entry::default();
     };
     let [perms, level, flags, _, low, high, ..] = bits.to_le_bytes();
     Entry {
@@ -122,7 +78,6 @@ fn entry_of(tag: u64, generation: u64, bits: u64, pa: u64) -> Entry {
         global: flags & 1 != 0,
         asid: u16::from_le_bytes([low, high]),
         pa,
->>>>>>> 5fea152f (Traces and records: an answer is an enum with its words and its text, numbers become enums by TryFrom, refusals by thiserror)
     }
 }
 

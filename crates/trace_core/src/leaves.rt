@@ -2,11 +2,7 @@
 use cpu::Core;
 use exception::enter;
 use exception::kind::Exception;
-<<<<<<< HEAD
-=======
-use exception::{report, take};
 use operations::call::Reply;
->>>>>>> 5fea152f (Traces and records: an answer is an enum with its words and its text, numbers become enums by TryFrom, refusals by thiserror)
 use sysreg::encoding;
 use sysreg::regs::{ControlReg, El, Register, SysReg};
 use trace_text::answer::Answer;
@@ -75,16 +71,9 @@ fn vector(from: u64, to: u64, spsel: bool) -> Answer {
 
 fn syndrome(from: u64, to: u64, pc: u64, e: Exception) -> Answer {
     let below = if from < to { 0 } else { 1 };
-<<<<<<< HEAD
     match e.syndrome(below, 1, pc) {
-        (esr, Some(far)) => pair(esr, far),
+        (esr, Some(far)) => Answer::Pair(esr, far),
         (esr, None) => value(esr),
-=======
-    let r = report::syndrome(e, below, 1, pc);
-    match r.far {
-        Some(far) => Answer::Pair(r.esr, far),
-        None => value(r.esr),
->>>>>>> 5fea152f (Traces and records: an answer is an enum with its words and its text, numbers become enums by TryFrom, refusals by thiserror)
     }
 }
 
@@ -94,7 +83,7 @@ pub fn answer(core: &Core, leaf: Leaf, base: u64, ram: &[u8]) -> Answer {
     match leaf {
         Leaf::Asid => value(u64::from(control.asid())),
         Leaf::Stage1On(r) => value(u64::from(Bank::new(control, r).stage1_on(r))),
-        Leaf::Untag(r, va) => value(tag::untag(Bank::new(control, r).tcr, r, va)),
+        Leaf::Untag(r, va) => value(Bank::new(control, r).untag(r, va)),
         Leaf::Walk(r, va) => walk_of(Bank::new(control, r), r, va, base, ram),
         Leaf::PaBits(code) => value(range::pa_bits(code)),
         Leaf::Permissions(bits) => {

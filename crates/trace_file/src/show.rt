@@ -1,77 +1,40 @@
 //! A line of output for an operation: its number in the trace, the operation, the answer, and the core after it.
 use core_parts::read;
 use counters_report::line::Levels;
-use digest::parts;
-<<<<<<< HEAD
 use cpu::Core;
-=======
+use digest::parts;
 use std::io;
->>>>>>> 5fea152f (Traces and records: an answer is an enum with its words and its text, numbers become enums by TryFrom, refusals by thiserror)
 use std::io::Write;
 use trace_core::machine::Machine;
 use trace_text::answer::Answer;
 use trace_text::line::Operation;
 
 // What the cache counted, and what is pending for the other cores.
-<<<<<<< HEAD
-#[derive(Clone, Copy)]
-struct Counts<'a>(&'a Core);
-
-impl fmt::Display for Counts<'_> {
-    fn fmt<W: fmt::Write>(&self, f: &mut fmt::Formatter<W>) -> fmt::Result {
-        let tlb = &self.0.tlb;
-        write!(f, "{}", Levels(&tlb.levels))?;
-        write!(f, " fl={:x} dr={:x}", tlb.flushes, tlb.drops)?;
-        write!(f, " ep={:x}", tlb.epoch)?;
-        let mut pending = [0; 2];
-        read::pending(self.0, &mut pending);
-        write!(f, " bc={}:{:x}", pending[0], pending[1])
-    }
-}
-
-// The registers that a line of output names.
-#[derive(Clone, Copy)]
-struct Kept<'a> {
-    core: &'a Core,
-    level: u64,
-}
-
-impl fmt::Display for Kept<'_> {
-    fn fmt<W: fmt::Write>(&self, f: &mut fmt::Formatter<W>) -> fmt::Result {
-        let core = self.core;
-        let mark = u8::from(core.privilege.unprivileged);
-        write!(f, "lp={:x} ap={:x}", core.last_pa, core.abort_pa)?;
-        write!(f, " el={} um={mark}", self.level)?;
-        write!(f, " as={:x} gen={:x}", core.tlb.asid, core.tlb.generation)?;
-        write!(f, " par={:x} pc={:x}", core.sys.par_el1, core.pc)
-    }
-=======
 fn counts<W: Write>(out: &mut W, core: &Core) -> io::Result<()> {
-    let counts = &core.tlb.counts;
+    let tlb = &core.tlb;
     let mut pending = [0; 2];
     read::pending(core, &mut pending);
     let [kind, operand] = pending;
-    write!(out, " | {}", Levels(&counts.levels))?;
+    write!(out, " | {}", Levels(&tlb.levels))?;
     write!(
         out,
         " fl={:x} dr={:x} ep={:x}",
-        counts.flushes, counts.drops, counts.epoch
+        tlb.flushes, tlb.drops, tlb.epoch
     )?;
     write!(out, " bc={kind}:{operand:x}")
 }
 
 // The registers that a line of output names.
 fn registers<W: Write>(out: &mut W, core: &Core, level: u64) -> io::Result<()> {
-    let current = core.tlb.cache.current;
+    let tlb = &core.tlb;
     let mark = u8::from(core.privilege.unprivileged);
     write!(
         out,
         " lp={:x} ap={:x} el={level} um={mark}",
         core.last_pa, core.abort_pa
     )?;
-    write!(out, " as={:x} gen={:x}", current.asid, current.generation)?;
+    write!(out, " as={:x} gen={:x}", tlb.asid, tlb.generation)?;
     write!(out, " par={:x} pc={:x}", core.sys.par_el1, core.pc)
->>>>>>> 5fea152f (Traces and records: an answer is an enum with its words and its text, numbers become enums by TryFrom, refusals by thiserror)
 }
 
 // The digests of registers, entries, hints and the window.
