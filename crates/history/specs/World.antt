@@ -38,7 +38,7 @@ pub record LeavesEqual (ℓ ℓ' : Leaf) : Type 0 where
 -- The invalidation covers the leaf ℓ of the page p, walked with the ASID a in force. An All or flush covers every walk; a Page one whose page agrees
 -- in the low 44 bits above the lowest 18, 9 or 0 for level 1, 2, 3; an Asid one that is not global, by the ASID in force at that walk. The premise's
 -- own reading, on purpose: what the plain model drops of its lines is said in tlb/specs/Model.antt, what the cache drops in
--- tlb/specs/Cache.antt, and `same-cover` (proofs/Traced.antt) and tlb/proofs/Refines.antt show that they agree.
+-- tlb/specs/Tlb.antt, and `same-cover` (proofs/Traced.antt) and tlb/proofs/Refines.antt show that they agree.
 unfoldable pub covers : Inval → ℕ → Leaf → ℕ → Bool
 covers All p ℓ a = true
 covers (Page n) p ℓ a = p % 2 ^ 44 / 2 ^ span_bits ℓ.level == n % 2 ^ 44 / 2 ^ span_bits ℓ.level

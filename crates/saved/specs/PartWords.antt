@@ -1,6 +1,6 @@
 -- What the words of a core say, in numbers: what is pending, an entry's attributes, and a level.
 use Rattle.std.specs.Prelude.{◌≡◌, ℕ, Bool, false, true, List, Option, Some, None, slice_index}
-use Rattle.tlb.specs.declared.{entry.Entry.Entry, Inval.Inval}
+use Rattle.tlb.specs.declared.{entry.Entry.Entry, hint.FetchHint.FetchHint, Inval.Inval}
 use Rattle.tlb.specs.declared.Inval.TheVariants.{All, Page, Asid}
 use Rattle.cpu.specs.declared.Core.{Core}
 use Rattle.saved.specs.CoreOf.{entry_of, core_of}
@@ -32,6 +32,28 @@ pub record PendingRestored (words : List ℕ) (value : ℕ) : Type 0 where
   pub a_page : PendingOf words 2 value (Some (Page value))
   pub an_asid : PendingOf words 3 0xFFFF_FFFF_FFFF_ABCD (Some (Asid 0xABCD))
   pub no_kind : PendingOf words 4 value None
+
+-- THE FETCH HINT: words 81 to 84
+
+abbrev fetch_on : Core → Option FetchHint → Core
+fetch_on c hint = record c { tlb = record c.tlb { fetch = hint } }
+
+pub record FetchWords (c : Core) (is page level pa : ℕ) : Type 0 where
+  pub word_81 : word_of c 81 ≡ is
+  pub word_82 : word_of c 82 ≡ page
+  pub word_83 : word_of c 83 ≡ level
+  pub word_84 : word_of c 84 ≡ pa
+
+pub record FetchSaved (c : Core) (page level pa : ℕ) : Type 0 where
+  pub one : FetchWords (fetch_on c (Some (record { page = page; level = level; pa = pa }))) 1 page level pa
+  pub none : FetchWords (fetch_on c None) 0 0 0 0
+
+-- any word but 1 is no hint
+pub record FetchRestored (words : List ℕ) (page pa : ℕ) : Type 0 where
+  pub one : slice_index words 81 ≡ 1 → slice_index words 82 ≡ page → slice_index words 83 ≡ 3 → slice_index words 84 ≡ pa
+      → (core_of words).tlb.fetch ≡ Some (record { page = page; level = 3; pa = pa })
+  pub none : slice_index words 81 ≡ 0 → (core_of words).tlb.fetch ≡ None
+  pub no_other : slice_index words 81 ≡ 2 → (core_of words).tlb.fetch ≡ None
 
 -- AN ENTRY'S ATTRIBUTES, each field with all its bits set
 

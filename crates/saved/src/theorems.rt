@@ -6,7 +6,8 @@ ghost use Rattle.saved.specs.CoreOf.{word, core_of};
 ghost use Rattle.saved.specs.Fits.{Fits};
 ghost use Rattle.saved.specs.NamedPlaces.{control_named, sys_named, general_named, parts_named};
 ghost use Rattle.saved.specs.NamedPlaces.{hints_named, entries_named, tallies_named};
-ghost use Rattle.saved.specs.PartWords.{PendingSaved, PendingRestored, AttributesSaved, AttributesRestored, LevelRestored};
+ghost use Rattle.saved.specs.PartWords.{PendingSaved, PendingRestored, FetchSaved, FetchRestored};
+ghost use Rattle.saved.specs.PartWords.{AttributesSaved, AttributesRestored, LevelRestored};
 ghost use Rattle.saved.specs.WordsOf.{word_of, words_of, held};
 
 /// The words of a core, one by one and as they are saved, are the same. It rules out a word that `save` writes and
@@ -44,6 +45,8 @@ pub fn named_places()
 pub fn words_of_parts()
     ensures pending_saved { (c : Core) (page asid : ℕ) → PendingSaved c page asid }
     ensures pending_restored { (words : List ℕ) (value : ℕ) → PendingRestored words value }
+    ensures fetch_saved { (c : Core) (page level pa : ℕ) → FetchSaved c page level pa }
+    ensures fetch_restored { (words : List ℕ) (page pa : ℕ) → FetchRestored words page pa }
     ensures attributes_saved { AttributesSaved }
     ensures attributes_restored { AttributesRestored }
     ensures level_restored { (words : List ℕ) → LevelRestored words }

@@ -19,31 +19,39 @@ pub fn key(op0: u32, op1: u32, crn: u32, crm: u32, op2: u32) -> u32
 pub fn banked(k: u32) -> Option<Register>
     ensures { result ≡ banked_at k }
 {
-    let (op0, op1, crn, crm, op2) = (k >> 14, k >> 11 & 7, k >> 7 & 15, k >> 3 & 15, k & 7);
-    if op0 != 3 {
-        return None;
-    }
-    let el = match op1 {
-        0 => El::El1,
-        4 => El::El2,
-        6 => El::El3,
-        _ => return None,
-    };
-    Some(match (crn, crm, op2) {
-        (1, 0, 0) => Register::InControl(ControlReg::Sctlr(el)),
-        (2, 0, 0) => Register::InControl(ControlReg::Ttbr0(el)),
-        (2, 0, 1) if op1 == 0 => Register::InControl(ControlReg::Ttbr1),
-        (2, 0, 2) => Register::InControl(ControlReg::Tcr(el)),
-        (10, 2, 0) => Register::InSys(SysReg::Mair(el)),
-        (12, 0, 0) => Register::InSys(SysReg::Vbar(el)),
-        (4, 0, 0) => Register::InSys(SysReg::Spsr(el)),
-        (4, 0, 1) => Register::InSys(SysReg::Elr(el)),
-        (5, 2, 0) => Register::InSys(SysReg::Esr(el)),
-        (6, 0, 0) => Register::InSys(SysReg::Far(el)),
-        (1, 1, 0) if op1 == 6 => Register::InControl(ControlReg::Scr),
-        (1, 1, 0) if op1 == 4 => Register::InControl(ControlReg::Hcr),
-        (0, 0, 0) if op1 == 4 => Register::InSys(SysReg::Vpidr),
-        (0, 0, 5) if op1 == 4 => Register::InSys(SysReg::Vmpidr),
+    Some(match k {
+        0xC080 => Register::InControl(ControlReg::Sctlr(El::El1)),
+        0xE080 => Register::InControl(ControlReg::Sctlr(El::El2)),
+        0xF080 => Register::InControl(ControlReg::Sctlr(El::El3)),
+        0xC100 => Register::InControl(ControlReg::Ttbr0(El::El1)),
+        0xE100 => Register::InControl(ControlReg::Ttbr0(El::El2)),
+        0xF100 => Register::InControl(ControlReg::Ttbr0(El::El3)),
+        0xC102 => Register::InControl(ControlReg::Tcr(El::El1)),
+        0xE102 => Register::InControl(ControlReg::Tcr(El::El2)),
+        0xF102 => Register::InControl(ControlReg::Tcr(El::El3)),
+        0xC200 => Register::InSys(SysReg::Spsr(El::El1)),
+        0xE200 => Register::InSys(SysReg::Spsr(El::El2)),
+        0xF200 => Register::InSys(SysReg::Spsr(El::El3)),
+        0xC201 => Register::InSys(SysReg::Elr(El::El1)),
+        0xE201 => Register::InSys(SysReg::Elr(El::El2)),
+        0xF201 => Register::InSys(SysReg::Elr(El::El3)),
+        0xC290 => Register::InSys(SysReg::Esr(El::El1)),
+        0xE290 => Register::InSys(SysReg::Esr(El::El2)),
+        0xF290 => Register::InSys(SysReg::Esr(El::El3)),
+        0xC300 => Register::InSys(SysReg::Far(El::El1)),
+        0xE300 => Register::InSys(SysReg::Far(El::El2)),
+        0xF300 => Register::InSys(SysReg::Far(El::El3)),
+        0xC510 => Register::InSys(SysReg::Mair(El::El1)),
+        0xE510 => Register::InSys(SysReg::Mair(El::El2)),
+        0xF510 => Register::InSys(SysReg::Mair(El::El3)),
+        0xC600 => Register::InSys(SysReg::Vbar(El::El1)),
+        0xE600 => Register::InSys(SysReg::Vbar(El::El2)),
+        0xF600 => Register::InSys(SysReg::Vbar(El::El3)),
+        0xC101 => Register::InControl(ControlReg::Ttbr1),
+        0xE088 => Register::InControl(ControlReg::Hcr),
+        0xF088 => Register::InControl(ControlReg::Scr),
+        0xE000 => Register::InSys(SysReg::Vpidr),
+        0xE005 => Register::InSys(SysReg::Vmpidr),
         _ => return None,
     })
 }

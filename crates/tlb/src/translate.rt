@@ -126,7 +126,7 @@ impl Tlb {
         answer
     }
 
-    /// The translation that a fetch begins with: the fetch hint, and else one that leaves it.
+    /// The translation that a fetch begins with: the fetch hint, and else one that leaves it. The request is a fetch.
     pub fn translate_fetch(&mut self, a: Request, base: u64, ram: &[u8]) -> Result<u64, Fault>
         ensures answer { result ≡ (fetch_in (asked a (word_at base ram.now 8)) self.old).answer }
         ensures after { self.new ≡ fetched_in (asked a (word_at base ram.now 8)) self.old }

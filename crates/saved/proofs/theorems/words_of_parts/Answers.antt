@@ -22,6 +22,21 @@ returns-clause-pending_restored _ words value = record {
   no_kind = λ kind is. rw kind refl;
 }
 
+pub returns-clause-fetch_saved : goal.returns-clause-fetch_saved
+unfolding word_of
+returns-clause-fetch_saved _ c page level pa = record {
+  one = record { word_81 = refl; word_82 = refl; word_83 = refl; word_84 = refl };
+  none = record { word_81 = refl; word_82 = refl; word_83 = refl; word_84 = refl };
+}
+
+pub returns-clause-fetch_restored : goal.returns-clause-fetch_restored
+unfolding core_of core_by core_on
+returns-clause-fetch_restored _ words page pa = record {
+  one = λ is at level to. rw (is, at, level, to) refl;
+  none = λ is. rw is refl;
+  no_other = λ is. rw is refl;
+}
+
 pub returns-clause-attributes_saved : goal.returns-clause-attributes_saved
 unfolding attributes
 returns-clause-attributes_saved _ = record { perms = refl; level = refl; global = refl; asid = refl }
