@@ -83,7 +83,8 @@ typedef uint64_t a72_saved[A72_WORDS];
 void a72_save(a72_core *core, uint64_t words[A72_WORDS]);
 
 /* The core becomes the one that these words hold: of any words, also such as nothing saved. Of a word that is
- * larger than its part some bits count; a level above 255 is 255, which every call refuses as it does 4. */
+ * larger than its part some bits count; a level above 255 is 255, which every call refuses as it does 4; where
+ * A72_PLACE_FETCH is not 1 there is no fetch hint, and its other words are not read. */
 void a72_restore(a72_core *core, const uint64_t words[A72_WORDS]);
 
 /* The one word at a place, as a72_save writes it; 0 past the last. */

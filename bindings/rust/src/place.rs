@@ -70,7 +70,7 @@ pub const ABORT_PA: usize = 78;
 pub const GENERATION: usize = 79;
 /// The cache's ASID.
 pub const ASID: usize = 80;
-/// The fetch hint: 1 where there is one.
+/// The fetch hint: 1 where there is one; else the three words after it are zeros, and not read.
 pub const FETCH: usize = 81;
 /// The fetch hint's page address.
 pub const FETCH_PAGE: usize = 82;
