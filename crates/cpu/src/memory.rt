@@ -12,6 +12,7 @@ use fault::Fault;
 use operations::place::{FaultAt, Pages, Place};
 use operations::{ends, lookup, place};
 use tlb::access::{Kind, Request};
+use tlb::hint::FetchHint;
 use word::ram::Width;
 
 impl Core {
@@ -59,7 +60,7 @@ impl Core {
     // A translation that no hint serves. Out of line, and reads the registers itself, so that a hint pays nothing for
     // it.
     #[inline(never)]
-    fn past_hint(&mut self, base: u64, ram: &[u8], va: u64, kind: Kind) -> Result<u64, Fault>
+    fn translate_slow(&mut self, base: u64, ram: &[u8], va: u64, kind: Kind) -> Result<u64, Fault>
         ensures { record { core = self.new; answer = result } ≡ past_hint_of self.old (word_at base ram.now 8) va kind }
     {
         match self.at_hand(base, ram, va, kind) {
@@ -76,18 +77,22 @@ impl Core {
     {
         match self.tlb.by_hint(self.privilege, va, kind) {
             Some(pa) => Ok(pa),
-            None => self.past_hint(base, ram, va, kind),
+            None => self.translate_slow(base, ram, va, kind),
         }
     }
 
-    // The translation that a fetch begins with.
-    #[tactic(auto, unfolding(crate::specs::Memory::translate_fetch_of, crate::specs::Memory::fetch_stepped_now, crate::specs::Translations::translate_fetch_in, crate::specs::Core::after_access))]
+    // The translation that a fetch begins with: by the fetch hint, and else one that leaves it.
+    #[tactic(auto, unfolding(crate::specs::Memory::translate_fetch_of, crate::specs::Memory::fetch_stepped_now, crate::specs::Memory::past_hint_of, crate::specs::Translations::past_hint_step, crate::specs::Translations::translate_fetch_in, crate::specs::Core::after_access))]
     fn translate_fetch(&mut self, base: u64, ram: &[u8], va: u64) -> Result<u64, Fault>
         ensures { record { core = self.new; answer = result }
             ≡ translate_fetch_of self.old (word_at base ram.now 8) va }
     {
-        let a = self.request(va, Kind::Fetch);
-        self.tlb.translate_fetch(a, base, ram)
+        if let Some(pa) = self.tlb.by_fetch_hint(self.privilege.level, va) {
+            return Ok(pa);
+        }
+        let pa = self.translate_slow(base, ram, va, Kind::Fetch)?;
+        self.tlb.fetch = Some(FetchHint::new(va, self.privilege.level, pa));
+        Ok(pa)
     }
 
     /// The translations of an access, before a byte moves: one, or two where it crosses a page. The first one's effects

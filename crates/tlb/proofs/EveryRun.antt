@@ -16,21 +16,21 @@ step-live (invalidates what) t s f = invalidate-live t s what
 step-live (retags asid) t s f = retag-live t s asid
 step-live (broadcasts what) t s f = broadcast-live t what
 step-live (translates a) t s f = (translation-follows a t s f.1 f.0).after
-step-live (fetches a) t s f = (fetch-follows a t s f.2 f.1).after
+step-live (fetches a) t s f = (fetch-follows a t s f.1 f.0).after
 
 step-sound : (o : Op) (t : Tlb) → WellFormed t → Fair o → WellFormed (after_op o t)
 step-sound (invalidates what) t s f = invalidate-sound t s what
 step-sound (retags asid) t s f = retag-sound t s asid
 step-sound (broadcasts what) t s f = broadcast-sound t what s
 step-sound (translates a) t s f = (translation-follows a t s f.1 f.0).well
-step-sound (fetches a) t s f = (fetch-follows a t s f.2 f.1).well
+step-sound (fetches a) t s f = (fetch-follows a t s f.1 f.0).well
 
 step-answer : (o : Op) (t : Tlb) → WellFormed t → Fair o → answer_of o t ≡ model_answer o (live t)
 step-answer (invalidates what) t s f = refl
 step-answer (retags asid) t s f = refl
 step-answer (broadcasts what) t s f = refl
 step-answer (translates a) t s f = ap holds (translation-follows a t s f.1 f.0).answer
-step-answer (fetches a) t s f = ap holds (fetch-follows a t s f.2 f.1).answer
+step-answer (fetches a) t s f = ap holds (fetch-follows a t s f.1 f.0).answer
 
 runs-from : (os : List Op) (t : Tlb) → WellFormed t → Each Fair os → run os t ≡ model_run os (live t)
 unfolding run model_run

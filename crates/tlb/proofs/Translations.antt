@@ -9,7 +9,7 @@ use Rattle.tlb.specs.Hint.{no_hint, place_of, data_slot, hint_key, hint_for, fet
 use Rattle.tlb.specs.Lists.{each-getD, each_set, get_d_set}
 use Rattle.tlb.specs.Live.{Follows, hint_of, hints_of, fetch_hint_of, live, Aligned, FetchAligned, WellFormed, LeafLevel}
 use Rattle.tlb.specs.Model.{Slot, empty, holds, Known, Model, folded, hint_place, knowing, keep_hint, keep_fetch, Access, known_of, unhinted, noted, tried, hinted}
-use Rattle.tlb.specs.Model.{translate, noted_fetch, fetched, fetch}
+use Rattle.tlb.specs.Model.{translate, as_fetch, noted_fetch, fetched, fetch}
 use Rattle.tlb.specs.Tlb.{hint_at}
 use Rattle.tlb.specs.Translate.{miss_in, noted_in, tried_in, translation_in, fetch_noted, fetch_tried, fetch_in}
 use Rattle.tlb.specs.declared.{access.Kind.Kind, access.Privilege.Privilege, hint.Hint.Hint, hint.FetchHint.FetchHint, Tlb.Tlb}
@@ -173,7 +173,7 @@ module _ (a : Access) (t : Tlb) (s : WellFormed t) (fits : LeafLevel a.walk) (lo
   by-fetch None q = missed
   by-fetch (Some f) q = rw (fetch-known-is f a.va a.privilege.level q.0) (by-serves f q.1 (fetch_serves f a.privilege.level a.va))
 
-  -- the translation that a fetch begins with follows the plain model
-  pub fetch-follows : Follows (fetch_in a t) (fetch a (live t))
-  unfolding fetch
-  fetch-follows = by-fetch t.fetch s.fetch
+-- the translation that a fetch begins with follows the plain model
+pub fetch-follows : (a : Access) (t : Tlb) → WellFormed t → LeafLevel a.walk → a.privilege.level ≤ 3 → Follows (fetch_in a t) (fetch a (live t))
+unfolding fetch
+fetch-follows a t s fits low = by-fetch (as_fetch a) t s fits low t.fetch s.fetch

@@ -5,7 +5,7 @@ use Rattle.std.proofs.Math.Path.{refl}
 use Rattle.std.proofs.Common.{sym, ◌∙◌, arith, ne_eqb}
 use Rattle.tlb.specs.Model.{Slot, empty, holds, Line, Counters, Model, up, up_at, one_hit, one_walk, line_for, keep, hint_place, knowing, Access}
 use Rattle.tlb.specs.Model.{walked}
-use Rattle.tlb.specs.Model.{looked, unhinted, noting, noted, tried, hinted, hintable, translate, noting_fetch, noted_fetch, fetched, fetch}
+use Rattle.tlb.specs.Model.{looked, unhinted, noting, noted, tried, hinted, hintable, translate, as_fetch, noting_fetch, noted_fetch, fetched, fetch}
 use Rattle.tlb.specs.Answers.{Answer}
 use Rattle.walk.specs.Answers.{Walked}
 
@@ -88,9 +88,9 @@ module _ (a : Access) (m : Model) where
       go true = try-counts (knowing (a.va / 4096) a.privilege.level (m.hints (hint_place a.kind a.va)))
       go false = miss-counts a.on
 
-  pub fetch-counts : (fetch a m).after.counts ≡ how_counted (how_fetched a m) a.privilege.level m.counts
-  unfolding fetch
-  fetch-counts = try-fetch-counts (knowing (a.va / 4096) a.privilege.level m.fetch)
+pub fetch-counts : (a : Access) (m : Model) → (fetch a m).after.counts ≡ how_counted (how_fetched a m) a.privilege.level m.counts
+unfolding fetch
+fetch-counts a m = try-fetch-counts (as_fetch a) m (knowing (a.va / 4096) a.privilege.level m.fetch)
 
 -- THE LEVEL OF THE ACCESS, AND NO OTHER
 

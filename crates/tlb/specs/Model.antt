@@ -332,7 +332,11 @@ hintable Fetch mark = false
 unfoldable pub translate : Access → Model → Outcome Model
 translate a m = hinted (hintable a.kind a.privilege.unprivileged) a m
 
--- a fetch asks the fetch hint first, whatever the mark, and leaves one
+-- a fetch asks the fetch hint first, whatever the mark, and leaves one; its kind is a fetch's
+abbrev pub as_fetch : Access → Access
+as_fetch a =
+    record a { kind = Fetch }
+
 abbrev pub noting_fetch : Answer → Access → Model → Model
 noting_fetch (Ok pa) a m = keep_fetch (known_of a pa) m
 noting_fetch (Err f) a m = m
@@ -345,4 +349,4 @@ fetched (holds frame) a m = record { answer = address_in frame a.va; after = m }
 fetched empty a m = noted_fetch a (unhinted a.on a m)
 
 unfoldable pub fetch : Access → Model → Outcome Model
-fetch a m = fetched (knowing (a.va / 4096) a.privilege.level m.fetch) a m
+fetch a m = fetched (knowing (a.va / 4096) a.privilege.level m.fetch) (as_fetch a) m

@@ -7,7 +7,6 @@ use Rattle.tlb.specs.Live.{counters_of, pending_of, LeafLevel}
 use Rattle.tlb.specs.Translate.{translation_in, tlb_after, fetch_in, fetched_in}
 use Rattle.tlb.specs.declared.{Tlb.Tlb, Inval.Inval}
 use Rattle.tlb.specs.Answers.{Answer}
-use Rattle.tlb.specs.declared.access.Kind.TheVariants.{Fetch}
 
 -- what can be asked of a cache; a flush is an All
 pub data Op : Type 0 where
@@ -17,13 +16,13 @@ pub data Op : Type 0 where
   translates : Access → Op
   fetches : Access → Op
 
--- the level is 0 to 3, a walk's leaf is of level 3 at most, and a fetch is one
+-- the level is 0 to 3, and a walk's leaf is of level 3 at most
 abbrev pub Fair : Op → Type 0
 Fair (invalidates what) = Unit {0}
 Fair (retags asid) = Unit {0}
 Fair (broadcasts what) = Unit {0}
 Fair (translates a) = (a.privilege.level ≤ 3) × LeafLevel a.walk
-Fair (fetches a) = (a.kind ≡ Fetch) × (a.privilege.level ≤ 3) × LeafLevel a.walk
+Fair (fetches a) = (a.privilege.level ≤ 3) × LeafLevel a.walk
 
 -- what is seen of an operation: its answer, if it has one, the counters, and what is pending
 pub record Seen : Type 0 where

@@ -11,7 +11,7 @@ use Rattle.tlb.specs.Answers.{Answer, Outcome}
 use Rattle.tlb.specs.Count.{hit_counted, walk_counted}
 use Rattle.tlb.specs.Entry.{entry_for}
 use Rattle.tlb.specs.Hint.{data_slot, hint_for, hint_found, fetch_for, fetch_found}
-use Rattle.tlb.specs.Model.{Access}
+use Rattle.tlb.specs.Model.{Access, as_fetch}
 use Rattle.tlb.specs.Tlb.{hint_at, get_of, put_of}
 use Rattle.tlb.specs.declared.{access.Kind.Kind, access.Privilege.Privilege, access.Request.Request, entry.Entry.Entry, Tlb.Tlb}
 
@@ -101,8 +101,9 @@ abbrev pub fetch_tried : Option ℕ → Access → Tlb → Outcome Tlb
 fetch_tried (Some pa) a t = record { answer = Ok pa; after = t }
 fetch_tried None a t = fetch_noted a (miss_in a t)
 
+-- whatever the kind of the access, it is a fetch's
 abbrev pub fetch_in : Access → Tlb → Outcome Tlb
-fetch_in a t = fetch_tried (fetch_found t.fetch a.privilege.level a.va) a t
+fetch_in a t = fetch_tried (fetch_found t.fetch a.privilege.level a.va) (as_fetch a) t
 
 abbrev pub fetched_in : Access → Tlb → Tlb
 fetched_in a t = (fetch_in a t).after

@@ -14,7 +14,6 @@ ghost use Rattle.tlb.specs.Worked.{WorkedRights, WorkedFetches, WorkedPending};
 ghost use Rattle.tlb.specs.declared.Tlb.{Tlb};
 ghost use Rattle.tlb.specs.declared.Inval.{Inval};
 ghost use Rattle.tlb.specs.declared.Inval.TheVariants.{All};
-ghost use Rattle.tlb.specs.declared.access.Kind.TheVariants.{Fetch};
 
 // Each operation does to a well-formed cache what it does to the plain model: the same answer, the same counters, the
 // same entries and hints, the same pending invalidation. It rules out a cache that keeps a hint past an invalidation,
@@ -24,7 +23,7 @@ pub fn refinement_of_the_model()
     ensures translation { (a : Access) (t : Tlb) → WellFormed t → LeafLevel a.walk → a.privilege.level ≤ 3
         → Follows (translation_in a t) (translate a (live t)) }
     ensures fetch { (a : Access) (t : Tlb) → WellFormed t → LeafLevel a.walk → a.privilege.level ≤ 3
-        → a.kind ≡ Fetch → Follows (fetch_in a t) (fetch a (live t)) }
+        → Follows (fetch_in a t) (fetch a (live t)) }
     ensures flush { (t : Tlb) → WellFormed t → live (flush_of t) ≡ invalidate All (live t) }
     ensures invalidation { (t : Tlb) → WellFormed t → (what : Inval)
         → live (invalidate_of t what) ≡ invalidate what (live t) }
@@ -38,7 +37,7 @@ pub fn caches_stay_well_formed()
     ensures translation { (a : Access) (t : Tlb) → WellFormed t → LeafLevel a.walk → a.privilege.level ≤ 3
         → WellFormed (tlb_after a t) }
     ensures fetch { (a : Access) (t : Tlb) → WellFormed t → LeafLevel a.walk → a.privilege.level ≤ 3
-        → a.kind ≡ Fetch → WellFormed (fetched_in a t) }
+        → WellFormed (fetched_in a t) }
     ensures invalidation { (t : Tlb) → WellFormed t → (what : Inval) → WellFormed (invalidate_of t what) }
     ensures retag { (t : Tlb) → WellFormed t → (asid : ℕ) → WellFormed (retag_of t asid) }
     ensures broadcast { (t : Tlb) (what : Inval) → WellFormed t → WellFormed (broadcast_of t what) }

@@ -9,7 +9,7 @@ pub returns-clause-translation : goal.returns-clause-translation
 returns-clause-translation c = λ a t s leaf low. (translation-follows a t s leaf low).well
 
 pub returns-clause-fetch : goal.returns-clause-fetch
-returns-clause-fetch c = λ a t s leaf low kind. (fetch-follows a t s leaf low).well
+returns-clause-fetch c = λ a t s leaf low. (fetch-follows a t s leaf low).well
 
 pub returns-clause-invalidation : goal.returns-clause-invalidation
 returns-clause-invalidation c = invalidate-sound

@@ -9,7 +9,7 @@ pub returns-clause-translation : goal.returns-clause-translation
 returns-clause-translation c = translation-follows
 
 pub returns-clause-fetch : goal.returns-clause-fetch
-returns-clause-fetch c = λ a t s leaf low kind. fetch-follows a t s leaf low
+returns-clause-fetch c = fetch-follows
 
 pub returns-clause-flush : goal.returns-clause-flush
 returns-clause-flush c = flush-live
