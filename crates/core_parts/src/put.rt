@@ -91,7 +91,7 @@ fn moved(entry: Entry, from: u32, to: u32) -> Entry
     }
 }
 
-#[tactic(auto, using(tlb::specs::Lists::sweep))]
+#[tactic(auto, using(tlb::proofs::Lists::sweep))]
 fn move_entries(entries: &mut [Entry; 1024], from: u32, to: u32)
     ensures { entries.new ≡ map (moved from to) entries.old }
 {

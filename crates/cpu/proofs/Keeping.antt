@@ -3,7 +3,7 @@ use Rattle.std.proofs.Common.{◌≡◌, ℕ, Bool, true, false, length, refl, a
 use Rattle.std.specs.Prelude.{if◌then◌else◌, slice_index, slice_set}
 use Rattle.std.proofs.lemmas.List.{get_or-set_same, get_or-set_other}
 use Rattle.std.proofs.Math.ListN.{length-set}
-use Rattle.tlb.specs.Lists.{replicate-at}
+use Rattle.tlb.proofs.Lists.{replicate-at}
 use Rattle.cpu.specs.Bare.{zeros}
 use Rattle.cpu.specs.Core.{fresh_core, reg_of, set_reg, after_access}
 use Rattle.cpu.specs.Memory.{translate_of, translate_access_of, write_of, fetch_of, fetch_pa_of, data_pa_of}

@@ -6,7 +6,8 @@ use Rattle.std.proofs.Math.Path.{ap}
 use Rattle.word.specs.Ram.{word_at}
 use Rattle.walk.specs.Regime.{stage1_on, regime_of}
 use Rattle.tlb.specs.Model.{Access}
-use Rattle.tlb.specs.Asks.{Ask, translates, fetches, onward-same, answer_of, tlb_ask, answers, tlb_asks}
+use Rattle.tlb.specs.Asks.{Ask, translates, fetches, answer_of, tlb_ask, answers, tlb_asks}
+use Rattle.tlb.proofs.Asks.{onward-same}
 use Rattle.tlb.specs.declared.access.Kind.{Kind}
 use Rattle.tlb.specs.declared.access.Kind.TheVariants.{Read, Write}
 use Rattle.cpu.specs.Bare.{bare_of}

@@ -12,7 +12,7 @@ use Rattle.walk.specs.Regime.{regime_of}
 use Rattle.walk.specs.declared.{regime.Bank.Bank}
 use Rattle.tlb.specs.Access.{may_hint, right_of, has_right, judged, user_of}
 use Rattle.tlb.specs.Answers.{Answer, Outcome}
-use Rattle.tlb.specs.Cells.{or-page}
+use Rattle.tlb.proofs.Cells.{or-page}
 use Rattle.tlb.specs.Entry.{blank, slot_of, serves, stamped, entry_for}
 use Rattle.tlb.specs.Hint.{no_hint, page_of, on_page, place_of, data_slot, hint_key, hint_for, hint_found}
 use Rattle.tlb.specs.Live.{WellFormed}

@@ -11,10 +11,10 @@ use Rattle.walk.proofs.PageLaws.{walk_of-page}
 use Rattle.walk.specs.declared.{regime.Bank.Bank, level.Leaf.Leaf}
 use Rattle.tlb.specs.Access.{may_hint, regime_number, user_of, right_of, has_right, judged}
 use Rattle.tlb.specs.Answers.{Answer, Outcome}
-use Rattle.tlb.specs.Cells.{or-page}
+use Rattle.tlb.proofs.Cells.{or-page}
 use Rattle.tlb.specs.Entry.{blank, slot_of, serves, entry_for}
 use Rattle.tlb.specs.Hint.{no_hint, on_page, data_slot, hint_key}
-use Rattle.tlb.specs.Lists.{each-getD, each-imp}
+use Rattle.tlb.proofs.Lists.{each-getD, each-imp}
 use Rattle.tlb.specs.Live.{Made, Aligned, WellFormed}
 use Rattle.tlb.specs.Model.{Access}
 use Rattle.tlb.specs.Tlb.{entry_at, hint_at, get_of}

@@ -283,4 +283,6 @@ module _ (w : World) where
 
       pub fetch-done : k ≡ Fetch → Fine (fetch a t)
       unfolding fetch
-      fetch-done f = fetch-tried f t.fetch (rw (sym f) at s.fetch-ok)
+      fetch-done f =
+          subst (λ (x : Access). Fine (fetched (knowing (va / 4096) c.privilege.level t.fetch) x t)) (λ i. record a { kind = f i })
+          (fetch-tried f t.fetch (rw (sym f) at s.fetch-ok))

@@ -4,10 +4,13 @@ use Rattle.std.proofs.Math.Path.{refl}
 use Rattle.std.proofs.Common.{sym, ap, ◌∙◌, arith}
 use Rattle.std.proofs.Math.Bool.{true, false}
 use Rattle.tlb.specs.Asks.{Ask, translates, fetches, onward}
-use Rattle.tlb.specs.Lists.{Each, done, more, each-imp}
+use Rattle.tlb.specs.Lists.{Each, done, more}
+use Rattle.tlb.proofs.Lists.{each-imp}
 use Rattle.tlb.specs.Model.{Counters, Model, up, up_at, invalidate, retag, broadcast}
-use Rattle.tlb.specs.Counting.{How, hint_answered, itself, line_answered, walk_answered, how_counted, translate-counts, fetch-counts}
-use Rattle.tlb.specs.Counting.{counted-others, sums, sums-move}
+use Rattle.tlb.specs.Counting.{How, hint_answered, itself, line_answered, walk_answered, how_counted}
+use Rattle.tlb.proofs.Counting.{translate-counts, fetch-counts}
+use Rattle.tlb.specs.Counting.{sums}
+use Rattle.tlb.proofs.Counting.{counted-others, sums-move}
 use Rattle.tlb.specs.declared.Inval.{Inval}
 use Rattle.tlb.specs.Answers.{Answer}
 use Rattle.tlb.specs.declared.access.Kind.TheVariants.{Fetch}

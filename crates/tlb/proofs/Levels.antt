@@ -1,8 +1,8 @@
 -- The counters of the four levels: what a hit and a walk at a level do to each, as the plain model tells it.
 use Rattle.std.specs.Prelude.{if◌then◌else◌, ◌≡◌, ℕ, ◌≤◌, Bool, true, false, length, ◌==◌, refl}
 use Rattle.std.proofs.Common.{sym, ap, ◌∙◌, arith, eqb-true, ext_get_or}
-use Rattle.tlb.specs.Count.{no_tally, hit_taken, walk_taken, level_place, tally_at, with_tally, hit_counted, walk_counted}
-use Rattle.tlb.specs.Lists.{get_d_set}
+use Rattle.tlb.specs.Count.{more, no_tally, hit_taken, walk_taken, level_place, tally_at, with_tally, hit_counted, walk_counted}
+use Rattle.tlb.proofs.Lists.{get_d_set}
 use Rattle.tlb.specs.Model.{one_hit, one_walk}
 use Rattle.tlb.specs.Live.{counters_of}
 use Rattle.tlb.specs.declared.{count.Tally.Tally, Tlb.Tlb}
@@ -31,40 +31,22 @@ module _ (t : Tlb) (long : length t.levels ≡ 4) (level : ℕ) (low : level ≤
       go true e = ap (λ (i : ℕ). f (tally_at t i)) (sym (eqb-true l level e))
       go false e = refl
 
-  hits-of : (b : Bool) (x y : Tally) → (if b then x else y).hits ≡ (if b then x.hits else y.hits)
-  hits-of true x y = refl
-  hits-of false x y = refl
+  hit-is : (b : Bool) (y : Tally) → (if b then hit_taken y else y) ≡ record { hits = if b then more y.hits else y.hits; walks = y.walks }
+  hit-is true y = refl
+  hit-is false y = refl
 
-  walks-of : (b : Bool) (x y : Tally) → (if b then x else y).walks ≡ (if b then x.walks else y.walks)
-  walks-of true x y = refl
-  walks-of false x y = refl
-
-  same : (b : Bool) (n : ℕ) → (if b then n else n) ≡ n
-  same true n = refl
-  same false n = refl
+  walk-is : (b : Bool) (y : Tally) → (if b then walk_taken y else y) ≡ record { hits = y.hits; walks = if b then more y.walks else y.walks }
+  walk-is true y = refl
+  walk-is false y = refl
 
   pub hit-counted : counters_of (hit_counted level t) ≡ one_hit level (counters_of t)
-  hit-counted =
-      λ n.
-      record {
-        hits = λ l. (ap (λ (y : Tally). y.hits) (changed hit_taken l) ∙ hits-of (l == level) (hit_taken (tally_at t l)) (tally_at t l)) n;
-        walks = λ l.
-            (ap (λ (y : Tally). y.walks) (changed hit_taken l) ∙ walks-of (l == level) (hit_taken (tally_at t l)) (tally_at t l)
-            ∙ same (l == level) (tally_at t l).walks) n;
-        flushes = t.flushes;
-        drops = t.drops;
-        epoch = t.epoch;
-      }
+  hit-counted = λ n. record (counters_of t) { hits = λ l. (at l n).hits; walks = λ l. (at l n).walks }
+    where
+      at : (l : ℕ) → tally_at (hit_counted level t) l ≡ record { hits = if l == level then more (tally_at t l).hits else (tally_at t l).hits; walks = (tally_at t l).walks }
+      at l = changed hit_taken l ∙ hit-is (l == level) (tally_at t l)
 
   pub walk-counted : counters_of (walk_counted level t) ≡ one_walk level (counters_of t)
-  walk-counted =
-      λ n.
-      record {
-        hits = λ l.
-            (ap (λ (y : Tally). y.hits) (changed walk_taken l) ∙ hits-of (l == level) (walk_taken (tally_at t l)) (tally_at t l)
-            ∙ same (l == level) (tally_at t l).hits) n;
-        walks = λ l. (ap (λ (y : Tally). y.walks) (changed walk_taken l) ∙ walks-of (l == level) (walk_taken (tally_at t l)) (tally_at t l)) n;
-        flushes = t.flushes;
-        drops = t.drops;
-        epoch = t.epoch;
-      }
+  walk-counted = λ n. record (counters_of t) { hits = λ l. (at l n).hits; walks = λ l. (at l n).walks }
+    where
+      at : (l : ℕ) → tally_at (walk_counted level t) l ≡ record { hits = (tally_at t l).hits; walks = if l == level then more (tally_at t l).walks else (tally_at t l).walks }
+      at l = changed walk_taken l ∙ walk-is (l == level) (tally_at t l)

@@ -1,4 +1,8 @@
 -- The cache beside the plain model: each operation, the counters, translations, runs; and worked runs, computed.
+pub mod Lists
+pub mod Asks
+pub mod Counting
+pub mod Cells
 pub mod Refines
 pub mod Levels
 pub mod Misses

@@ -5,10 +5,10 @@ use Rattle.std.proofs.Common.{◌∙◌, arith, length-set}
 use Rattle.walk.specs.Answers.{Walked}
 use Rattle.walk.specs.declared.level.Leaf.{Leaf}
 use Rattle.tlb.specs.Answers.{Outcome}
-use Rattle.tlb.specs.Cells.{judged-is}
+use Rattle.tlb.proofs.Cells.{judged-is}
 use Rattle.tlb.specs.Count.{with_tally, hit_counted, walk_counted}
 use Rattle.tlb.specs.Entry.{blank, slot_of, serves, entry_for}
-use Rattle.tlb.specs.Lists.{each-getD}
+use Rattle.tlb.proofs.Lists.{each-getD}
 use Rattle.tlb.specs.Live.{Follows, line_in, live, Made, WellFormed, LeafLevel}
 use Rattle.tlb.specs.Model.{empty, holds, Line, one_hit, one_walk, counting, keep, Access, line_of_leaf, reach_of, judge, walked, looked, unhinted}
 use Rattle.tlb.specs.Tlb.{entry_at, get_of}

@@ -8,14 +8,15 @@ use Rattle.std.proofs.Math.ListN.{length-replicate, get_or-map}
 use Rattle.walk.specs.declared.regime.Regime.{Regime}
 use Rattle.tlb.specs.Entry.{blank, slot_of, serves, stamped, untagged, named, page_dropped, walked_for, asid_dropped}
 use Rattle.tlb.specs.Hint.{no_hint}
-use Rattle.tlb.specs.Lists.{Each, each_map, each-imp, each_set, each-getD, each-replicate, replicate-at, get_d_set}
+use Rattle.tlb.specs.Lists.{Each}
+use Rattle.tlb.proofs.Lists.{each_map, each-imp, each_set, each-getD, each-replicate, replicate-at, get_d_set}
 use Rattle.tlb.specs.Count.{more, no_tally, no_tallies}
 use Rattle.tlb.specs.Tlb.{blanks, no_hints, fresh, entry_at, hintless, next_generation, get_of, put_of, flush_of, drop_page_of, drop_asid_of}
 use Rattle.tlb.specs.Tlb.{retag_of, invalidate_of, same_inval, pending_after, broadcast_of}
 use Rattle.tlb.specs.Access.{regime_number}
 use Rattle.tlb.specs.Model.{Slot, empty, holds, Line, empty_model, uncovered, invalidate, retag, equal, joined, broadcast, serving, line_for, keep}
 use Rattle.tlb.specs.Live.{line_in, line_of, hint_of, fetch_hint_of, pending_of, lines_of, hints_of, counters_of, live, Made, Aligned, FetchAligned, WellFormed}
-use Rattle.tlb.specs.Cells.{same-pick, regime-low, found, line_made, page-drops, asid-drops, all-covered, flush-drops}
+use Rattle.tlb.proofs.Cells.{if-ap, same-pick, regime-low, found, line_made, page-drops, asid-drops, all-covered, flush-drops}
 use Rattle.tlb.specs.declared.{entry.Entry.Entry, hint.Hint.Hint, Tlb.Tlb, Inval.Inval}
 use Rattle.tlb.specs.declared.Inval.TheVariants.{All, Page, Asid}
 
@@ -227,25 +228,15 @@ falsely e = absurd (let z : ◌≡◌ {A = ℕ} 0 1 = ap (λ (b : Bool). (if b t
 
 equal_is : (v w : Inval) → equal v w ≡ same_inval v w
 equal_is All All = refl
-equal_is All (Page q) = refl
-equal_is All (Asid m) = refl
-equal_is (Page p) All = refl
 equal_is (Page p) (Page q) = refl
-equal_is (Page p) (Asid m) = refl
-equal_is (Asid n) All = refl
-equal_is (Asid n) (Page q) = refl
 equal_is (Asid n) (Asid m) = refl
+equal_is v w = refl
 
 same-is : (v w : Inval) → same_inval v w ≡ true → v ≡ w
 same-is All All e = refl
-same-is All (Page q) e = falsely e
-same-is All (Asid m) e = falsely e
-same-is (Page p) All e = falsely e
 same-is (Page p) (Page q) e = ap Page (eqb-true p q e)
-same-is (Page p) (Asid m) e = falsely e
-same-is (Asid n) All e = falsely e
-same-is (Asid n) (Page q) e = falsely e
 same-is (Asid n) (Asid m) e = ap Asid (eqb-true n m e)
+same-is v w e = falsely e
 
 joined_is : (p : Option Inval) (what : Inval) → pending_of (pending_after p what) ≡ joined (pending_of p) what
 joined_is None what = refl
@@ -310,11 +301,7 @@ pub get-live : (t : Tlb) (r : Regime) (p : ℕ) → found_in r (get_of t (p * 4 
 unfolding get_of
 get-live t r p =
     let e = entry_at t (slot_of (p * 4 + regime_number r)) in
-    pushed (serves e t (p * 4 + regime_number r)) e ∙ sym (line-is t r p)
-  where
-    pushed : (b : Bool) (e : Entry) → found_in r (if b then Some e else None) ≡ (if b then holds (line_in r e) else empty)
-    pushed true e = refl
-    pushed false e = refl
+    if-ap (found_in r) (serves e t (p * 4 + regime_number r)) (Some e) None ∙ sym (line-is t r p)
 
 -- an entry of a regime's page, put into its slot in the present generation
 pub kept-lines : (g p : ℕ) (r : Regime) (es : List Entry) (e : Entry) → length es ≡ 1024 → e.generation ≡ g
@@ -323,12 +310,8 @@ pub kept-lines : (g p : ℕ) (r : Regime) (es : List Entry) (e : Entry) → leng
 unfolding lines_of
 kept-lines g p r es e long q w i =
     ap (line_of g) (get_d_set es (slot_of e.tag) i e blank (rw long (omega arith)))
-    ∙ pushed (i == slot_of e.tag) (slice_index_or es i blank)
+    ∙ if-ap (line_of g) (i == slot_of e.tag) e (slice_index_or es i blank)
     ∙ ap (λ (l : Slot Line). (if i == slot_of e.tag then l else line_of g (slice_index_or es i blank))) (line_made g p r e q w)
-  where
-    pushed : (b : Bool) (y : Entry) → line_of g (if b then e else y) ≡ (if b then line_of g e else line_of g y)
-    pushed true y = refl
-    pushed false y = refl
 
 module _ (t : Tlb) (s : WellFormed t) (r : Regime) (p : ℕ) (e : Entry) where
   pub put-live : e.tag ≡ p * 4 + regime_number r → live (put_of t e) ≡ keep (line_in r e) (live t)
@@ -348,13 +331,15 @@ module _ (t : Tlb) (s : WellFormed t) (r : Regime) (p : ℕ) (e : Entry) where
   unfolding put_of
   put-sound a l =
       let made : Made t.generation (stamped e t.generation) = record { early = omega arith; aligned = a; level = l } in
+      let slots : length (slice_set t.entries (slot_of e.tag) (stamped e t.generation)) ≡ 1024 = length-set _ _ _ ∙ s.slots in
+      let entries : Each (Made t.generation) (slice_set t.entries (slot_of e.tag) (stamped e t.generation)) = each_set _ made s.entries _ in
       record {
         first = s.first;
         last = s.last;
-        slots = length-set t.entries (slot_of e.tag) (stamped e t.generation) ∙ s.slots;
+        slots = slots;
         places = s.places;
         levels = s.levels;
-        entries = each_set (stamped e t.generation) made s.entries (slot_of e.tag);
+        entries = entries;
         hints = s.hints;
         fetch = s.fetch;
       }

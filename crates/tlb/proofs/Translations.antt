@@ -1,12 +1,13 @@
 -- A translation gives the plain model's answer, does to it what the requirement says, and keeps the cache well-formed.
-use Rattle.std.specs.Prelude.{if◌then◌else◌, ◌≡◌, ℕ, ◌/◌, ◌%◌, ◌<◌, ◌≤◌, Bool, true, false, ◌==◌, Option, Some, None, slice_index_or, slice_set, Ok, Err}
+use Rattle.std.specs.Prelude.{if◌then◌else◌, ◌≡◌, ℕ, ◌/◌, ◌%◌, ◌<◌, ◌≤◌, Bool, true, false, ◌==◌, Option, Some, None, length, slice_index_or, slice_set, Ok, Err}
 use Rattle.std.proofs.Math.Path.{refl, sym, ap, subst}
 use Rattle.std.proofs.Common.{◌∙◌, arith, length-set}
 use Rattle.tlb.specs.Access.{may_hint}
 use Rattle.tlb.specs.Answers.{Answer, Outcome}
-use Rattle.tlb.specs.Cells.{on-aligned, may-is, known_is, hint-made, fetch-known-is, fetch-made}
+use Rattle.tlb.proofs.Cells.{if-ap, on-aligned, may-is, known_is, hint-made, fetch-known-is, fetch-made}
 use Rattle.tlb.specs.Hint.{no_hint, place_of, data_slot, hint_key, hint_for, fetch_serves, fetch_for, fetch_found, on_page}
-use Rattle.tlb.specs.Lists.{each-getD, each_set, get_d_set}
+use Rattle.tlb.specs.Lists.{Each}
+use Rattle.tlb.proofs.Lists.{each-getD, each_set, get_d_set}
 use Rattle.tlb.specs.Live.{Follows, hint_of, hints_of, fetch_hint_of, live, Aligned, FetchAligned, WellFormed, LeafLevel}
 use Rattle.tlb.specs.Model.{Slot, empty, holds, Known, Model, folded, hint_place, knowing, keep_hint, keep_fetch, Access, known_of, unhinted, noted, tried, hinted}
 use Rattle.tlb.specs.Model.{translate, as_fetch, noted_fetch, fetched, fetch}
@@ -44,14 +45,16 @@ module _ (a : Access) (low : a.privilege.level ≤ 3) where
 
   hint-well : (pa : ℕ) (t : Tlb) → WellFormed t → WellFormed (with_hint pa t)
   hint-well pa t s =
+      let places : length (slice_set t.hints place (left pa)) ≡ 512 = length-set t.hints place (left pa) ∙ s.places in
+      let hints : Each Aligned (slice_set t.hints place (left pa)) = each_set (left pa) (omega arith) s.hints place in
       record {
         first = s.first;
         last = s.last;
         slots = s.slots;
-        places = length-set t.hints place (left pa) ∙ s.places;
+        places = places;
         levels = s.levels;
         entries = s.entries;
-        hints = each_set (left pa) (omega arith) s.hints place;
+        hints = hints;
         fetch = s.fetch;
       }
 
@@ -59,15 +62,11 @@ module _ (a : Access) (low : a.privilege.level ≤ 3) where
   unfolding hints_of
   hint-kept pa t s short = λ n. record (live t) { hints = λ i. at i n }
     where
-      pushed : (b : Bool) (x y : Hint) → hint_of (if b then x else y) ≡ (if b then hint_of x else hint_of y)
-      pushed true x y = refl
-      pushed false x y = refl
-
       at : (i : ℕ) → hint_of (slice_index_or (slice_set t.hints place (left pa)) i no_hint)
           ≡ (if i == place then holds (known_of a pa) else hint_of (slice_index_or t.hints i no_hint))
       at i =
           ap hint_of (get_d_set t.hints place i (left pa) no_hint (rw s.places short))
-          ∙ pushed (i == place) _ _
+          ∙ if-ap hint_of (i == place) _ _
           ∙ ap (λ (l : Slot Known). (if i == place then l else hint_of (slice_index_or t.hints i no_hint)))
           (hint-made a.va a.privilege.level pa low)
 

@@ -1,6 +1,6 @@
 -- The translations that a step of a core makes, in order and until one faults, and the answers that they get in a
 -- cache.
-use Rattle.std.specs.Prelude.{◌≡◌, ℕ, List, [], ◌∷◌, refl, Ok, Err}
+use Rattle.std.specs.Prelude.{ℕ, List, [], ◌∷◌, Ok, Err}
 use Rattle.tlb.specs.Model.{Access}
 use Rattle.tlb.specs.Translate.{translation_in, tlb_after, fetch_in, fetched_in}
 use Rattle.tlb.specs.declared.{access.Kind.Kind, Tlb.Tlb}
@@ -30,10 +30,6 @@ pub record Given : Type 0 where
 abbrev pub onward {ℓ} : {A : Type ℓ} → Answer → A → A → A
 onward (Ok pa) x y = x
 onward (Err f) x y = y
-
-pub onward-same : {A : Type 0} (a : Answer) (x : A) → onward a x x ≡ x
-onward-same (Ok pa) x = refl
-onward-same (Err f) x = refl
 
 -- In a cache, by the accesses that registers, level and tables make of kinds and addresses: the answer to one
 -- translation and the cache after it; the answers to a step's, and the cache after them.

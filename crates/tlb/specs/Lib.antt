@@ -9,7 +9,6 @@ pub mod Tlb
 pub mod Translate
 pub mod Model
 pub mod Live
-pub mod Cells
 pub mod Hand
 pub mod Asks
 pub mod Maintenance

@@ -149,14 +149,9 @@ retag a m =
 -- both All, Pages of one number, or Asids of one number
 abbrev pub equal : Inval → Inval → Bool
 equal All All = true
-equal All (Page q) = false
-equal All (Asid b) = false
-equal (Page p) All = false
 equal (Page p) (Page q) = p == q
-equal (Page p) (Asid b) = false
-equal (Asid a) All = false
-equal (Asid a) (Page q) = false
 equal (Asid a) (Asid b) = a == b
+equal v w = false
 
 -- a second broadcast that differs from the pending one becomes All; an equal one stays
 abbrev pub joined : Slot Inval → Inval → Slot Inval
@@ -175,20 +170,14 @@ reaches (only b) a = b == a
 
 abbrev pub same_regime : Regime → Regime → Bool
 same_regime El1 El1 = true
-same_regime El1 El2 = false
-same_regime El1 El3 = false
-same_regime El2 El1 = false
 same_regime El2 El2 = true
-same_regime El2 El3 = false
-same_regime El3 El1 = false
-same_regime El3 El2 = false
 same_regime El3 El3 = true
+same_regime r s = false
 
 -- the line, where it is of the page and the regime and serves the ASID
 abbrev pub serving : ℕ → Regime → ℕ → Slot Line → Slot Line
 serving a r p empty = empty
-serving a r p (holds l) =
-    if (l.page == p && same_regime l.regime r) && reaches l.reach a then holds l else empty
+serving a r p (holds l) = if (l.page == p && same_regime l.regime r) && reaches l.reach a then holds l else empty
 
 -- a page's line stands in the slot of its low ten bits
 unfoldable pub line_for : Model → Regime → ℕ → Slot Line
@@ -334,8 +323,7 @@ translate a m = hinted (hintable a.kind a.privilege.unprivileged) a m
 
 -- a fetch asks the fetch hint first, whatever the mark, and leaves one; its kind is a fetch's
 abbrev pub as_fetch : Access → Access
-as_fetch a =
-    record a { kind = Fetch }
+as_fetch a = record a { kind = Fetch }
 
 abbrev pub noting_fetch : Answer → Access → Model → Model
 noting_fetch (Ok pa) a m = keep_fetch (known_of a pa) m

@@ -1,6 +1,6 @@
 -- Every list of operations on a new cache: what is seen of it, answer by answer, is what is seen of the plain model. Neither `live` nor the
 -- well-formed caches stand in the statement.
-use Rattle.std.specs.Prelude.{◌≡◌, ℕ, ◌≤◌, List, [], ◌∷◌}
+use Rattle.std.specs.Prelude.{ℕ, ◌≤◌, List, [], ◌∷◌}
 use Rattle.tlb.specs.Tlb.{invalidate_of, retag_of, broadcast_of}
 use Rattle.tlb.specs.Model.{Slot, empty, holds, Counters, Model, invalidate, retag, broadcast, Access, translate, fetch}
 use Rattle.tlb.specs.Live.{counters_of, pending_of, LeafLevel}

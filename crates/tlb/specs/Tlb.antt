@@ -77,14 +77,9 @@ invalidate_of t (Asid n) = drop_asid_of t n
 
 abbrev pub same_inval : Inval → Inval → Bool
 same_inval All All = true
-same_inval All (Page q) = false
-same_inval All (Asid m) = false
-same_inval (Page p) All = false
 same_inval (Page p) (Page q) = p == q
-same_inval (Page p) (Asid m) = false
-same_inval (Asid n) All = false
-same_inval (Asid n) (Page q) = false
 same_inval (Asid n) (Asid m) = n == m
+same_inval v w = false
 
 -- nothing pending: this; the same pending: it stays; another: All
 abbrev pub pending_after : Option Inval → Inval → Option Inval

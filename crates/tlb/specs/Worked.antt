@@ -12,80 +12,12 @@ use Rattle.tlb.specs.declared.access.Kind.TheVariants.{Read, Write, Fetch}
 use Rattle.tlb.specs.declared.Inval.TheVariants.{All, Page, Asid}
 use Rattle.walk.specs.Answers.{Walked}
 
--- a list shows these rows, on the cache and on the plain model
-pub record Shows (row : Seen → List ℕ) (ops : List Op) (rows : List (List ℕ)) : Type 0 where
-  pub cache : map row (run ops fresh) ≡ rows
-  pub model : map row (model_run ops empty_model) ≡ rows
+-- operations, each with the row that it shows, on the cache and on the plain model
+pub record Shows (row : Seen → List ℕ) (steps : List (Op × List ℕ)) : Type 0 where
+  pub cache : map row (run (map (λ s. s.0) steps) fresh) ≡ map (λ s. s.1) steps
+  pub model : map row (model_run (map (λ s. s.0) steps) empty_model) ≡ map (λ s. s.1) steps
 
--- A BLOCK and its invalidations: a 2 MiB block is walked, hinted, dropped by a Page of another of its pages, walked again, found after an Asid
--- that is not its own and after a Page of the next block, out of use under another ASID, and gone after an All. Each of the four takes
--- the hint along, which would answer every one of these reads by itself.
-
--- a block of the ASID in force, readable at EL1
-abbrev block : ℕ → Walked
-block oa = Ok (record { oa = oa; desc = 0; perms = 8; level = 2; global = false })
-
--- an EL1 access to 0x40003123, with stage 1 on
-abbrev access : Kind → Walked → Op
-access k w =
-    translates
-    (record {
-      privilege = record { level = 1; unprivileged = false };
-      kind = k;
-      va = 0x40003123;
-      on = true;
-      regime = El1;
-      untagged = 0x40003123;
-      walk = w;
-    })
-
--- the answer as a number, hits and walks of EL1, flushes, drops, epoch
-abbrev answered : Slot Answer → ℕ
-answered empty = 0
-answered (holds (Ok pa)) = pa
-answered (holds (Err f)) = f.fsc
-
-abbrev row : Seen → List ℕ
-row s = answered s.answer ∷ s.counts.hits 1 ∷ s.counts.walks 1 ∷ s.counts.flushes ∷ s.counts.drops ∷ s.counts.epoch ∷ []
-
-abbrev pub WorkedRun : Type 0
-WorkedRun =
-    Shows row
-    (access Read (block 0x80003000)
-    ∷ access Read (block 0x80003000)
-    ∷ access Write (block 0x80003000)
-    ∷ invalidates (Page 0x401FF)
-    ∷ access Read (block 0x80003000)
-    ∷ invalidates (Asid 1)
-    ∷ access Read (block 0x80003000)
-    ∷ invalidates (Page 0x40200)
-    ∷ access Read (block 0x80003000)
-    ∷ retags 1
-    ∷ access Read (block 0xA0003000)
-    ∷ invalidates All
-    ∷ access Read (Err 6)
-    ∷ [])
-    ((0x80003123 ∷ 0 ∷ 1 ∷ 0 ∷ 0 ∷ 0 ∷ [])
-    ∷ (0x80003123 ∷ 0 ∷ 1 ∷ 0 ∷ 0 ∷ 0 ∷ [])
-    ∷ (0x0E ∷ 1 ∷ 1 ∷ 0 ∷ 0 ∷ 0 ∷ [])
-    ∷ (0 ∷ 1 ∷ 1 ∷ 0 ∷ 1 ∷ 1 ∷ [])
-    ∷ (0x80003123 ∷ 1 ∷ 2 ∷ 0 ∷ 1 ∷ 1 ∷ [])
-    ∷ (0 ∷ 1 ∷ 2 ∷ 0 ∷ 1 ∷ 2 ∷ [])
-    ∷ (0x80003123 ∷ 2 ∷ 2 ∷ 0 ∷ 1 ∷ 2 ∷ [])
-    ∷ (0 ∷ 2 ∷ 2 ∷ 0 ∷ 2 ∷ 3 ∷ [])
-    ∷ (0x80003123 ∷ 3 ∷ 2 ∷ 0 ∷ 2 ∷ 3 ∷ [])
-    ∷ (0 ∷ 3 ∷ 2 ∷ 0 ∷ 2 ∷ 4 ∷ [])
-    ∷ (0xA0003123 ∷ 3 ∷ 3 ∷ 0 ∷ 2 ∷ 4 ∷ [])
-    ∷ (0 ∷ 3 ∷ 3 ∷ 1 ∷ 2 ∷ 5 ∷ [])
-    ∷ (6 ∷ 3 ∷ 4 ∷ 1 ∷ 2 ∷ 5 ∷ [])
-    ∷ [])
-
--- LEVELS AND THE MARK: each access is counted at its own level, and under the mark EL1's at EL1.
-
--- a page that all may use, for every ASID, as a leaf of a level
-abbrev open-page : ℕ → Walked
-open-page level = Ok (record { oa = 0x90005000; desc = 0; perms = 63; level = level; global = true })
-
+-- an access with stage 1 on
 abbrev access_by : Regime → ℕ → Bool → Kind → ℕ → Walked → Access
 access_by r level mark k va w =
     record {
@@ -101,6 +33,51 @@ access_by r level mark k va w =
 abbrev asked : Regime → ℕ → Bool → Kind → ℕ → Walked → Op
 asked r level mark k va w = translates (access_by r level mark k va w)
 
+-- A BLOCK and its invalidations: a 2 MiB block is walked, hinted, dropped by a Page of another of its pages, walked again, found after an Asid
+-- that is not its own and after a Page of the next block, out of use under another ASID, and gone after an All. Each of the four takes
+-- the hint along, which would answer every one of these reads by itself.
+
+-- a block of the ASID in force, readable at EL1
+abbrev block : ℕ → Walked
+block oa = Ok (record { oa = oa; desc = 0; perms = 8; level = 2; global = false })
+
+-- an EL1 access to 0x40003123
+abbrev access : Kind → Walked → Op
+access k w = asked El1 1 false k 0x40003123 w
+
+-- the answer as a number, hits and walks of EL1, flushes, drops, epoch
+abbrev answered : Slot Answer → ℕ
+answered empty = 0
+answered (holds (Ok pa)) = pa
+answered (holds (Err f)) = f.fsc
+
+abbrev row : Seen → List ℕ
+row s = answered s.answer ∷ s.counts.hits 1 ∷ s.counts.walks 1 ∷ s.counts.flushes ∷ s.counts.drops ∷ s.counts.epoch ∷ []
+
+abbrev pub WorkedRun : Type 0
+WorkedRun =
+    Shows row
+    ((access Read (block 0x80003000), 0x80003123 ∷ 0 ∷ 1 ∷ 0 ∷ 0 ∷ 0 ∷ [])
+    ∷ (access Read (block 0x80003000), 0x80003123 ∷ 0 ∷ 1 ∷ 0 ∷ 0 ∷ 0 ∷ [])
+    ∷ (access Write (block 0x80003000), 0x0E ∷ 1 ∷ 1 ∷ 0 ∷ 0 ∷ 0 ∷ [])
+    ∷ (invalidates (Page 0x401FF), 0 ∷ 1 ∷ 1 ∷ 0 ∷ 1 ∷ 1 ∷ [])
+    ∷ (access Read (block 0x80003000), 0x80003123 ∷ 1 ∷ 2 ∷ 0 ∷ 1 ∷ 1 ∷ [])
+    ∷ (invalidates (Asid 1), 0 ∷ 1 ∷ 2 ∷ 0 ∷ 1 ∷ 2 ∷ [])
+    ∷ (access Read (block 0x80003000), 0x80003123 ∷ 2 ∷ 2 ∷ 0 ∷ 1 ∷ 2 ∷ [])
+    ∷ (invalidates (Page 0x40200), 0 ∷ 2 ∷ 2 ∷ 0 ∷ 2 ∷ 3 ∷ [])
+    ∷ (access Read (block 0x80003000), 0x80003123 ∷ 3 ∷ 2 ∷ 0 ∷ 2 ∷ 3 ∷ [])
+    ∷ (retags 1, 0 ∷ 3 ∷ 2 ∷ 0 ∷ 2 ∷ 4 ∷ [])
+    ∷ (access Read (block 0xA0003000), 0xA0003123 ∷ 3 ∷ 3 ∷ 0 ∷ 2 ∷ 4 ∷ [])
+    ∷ (invalidates All, 0 ∷ 3 ∷ 3 ∷ 1 ∷ 2 ∷ 5 ∷ [])
+    ∷ (access Read (Err 6), 6 ∷ 3 ∷ 4 ∷ 1 ∷ 2 ∷ 5 ∷ [])
+    ∷ [])
+
+-- LEVELS AND THE MARK: each access is counted at its own level, and under the mark EL1's at EL1.
+
+-- a page that all may use, for every ASID, as a leaf of a level
+abbrev open-page : ℕ → Walked
+open-page level = Ok (record { oa = 0x90005000; desc = 0; perms = 63; level = level; global = true })
+
 abbrev from : ℕ → Bool → Kind → ℕ → Op
 from level mark k va = asked El1 level mark k va (open-page 3)
 
@@ -113,21 +90,13 @@ levels s =
 abbrev pub WorkedAtLevels : Type 0
 WorkedAtLevels =
     Shows levels
-    (from 0 false Read 0x5000
-    ∷ from 1 false Read 0x5000
-    ∷ from 1 true Read 0x5000
-    ∷ from 1 true Write 0x6000
-    ∷ from 0 false Write 0x6000
-    ∷ from 0 false Write 0x6008
-    ∷ from 1 true Fetch 0x7000
-    ∷ [])
-    ((0 ∷ 1 ∷ 0 ∷ 0 ∷ 0 ∷ 0 ∷ 0 ∷ 0 ∷ [])
-    ∷ (0 ∷ 1 ∷ 1 ∷ 0 ∷ 0 ∷ 0 ∷ 0 ∷ 0 ∷ [])
-    ∷ (0 ∷ 1 ∷ 2 ∷ 0 ∷ 0 ∷ 0 ∷ 0 ∷ 0 ∷ [])
-    ∷ (0 ∷ 1 ∷ 2 ∷ 1 ∷ 0 ∷ 0 ∷ 0 ∷ 0 ∷ [])
-    ∷ (1 ∷ 1 ∷ 2 ∷ 1 ∷ 0 ∷ 0 ∷ 0 ∷ 0 ∷ [])
-    ∷ (1 ∷ 1 ∷ 2 ∷ 1 ∷ 0 ∷ 0 ∷ 0 ∷ 0 ∷ [])
-    ∷ (1 ∷ 1 ∷ 2 ∷ 2 ∷ 0 ∷ 0 ∷ 0 ∷ 0 ∷ [])
+    ((from 0 false Read 0x5000, 0 ∷ 1 ∷ 0 ∷ 0 ∷ 0 ∷ 0 ∷ 0 ∷ 0 ∷ [])
+    ∷ (from 1 false Read 0x5000, 0 ∷ 1 ∷ 1 ∷ 0 ∷ 0 ∷ 0 ∷ 0 ∷ 0 ∷ [])
+    ∷ (from 1 true Read 0x5000, 0 ∷ 1 ∷ 2 ∷ 0 ∷ 0 ∷ 0 ∷ 0 ∷ 0 ∷ [])
+    ∷ (from 1 true Write 0x6000, 0 ∷ 1 ∷ 2 ∷ 1 ∷ 0 ∷ 0 ∷ 0 ∷ 0 ∷ [])
+    ∷ (from 0 false Write 0x6000, 1 ∷ 1 ∷ 2 ∷ 1 ∷ 0 ∷ 0 ∷ 0 ∷ 0 ∷ [])
+    ∷ (from 0 false Write 0x6008, 1 ∷ 1 ∷ 2 ∷ 1 ∷ 0 ∷ 0 ∷ 0 ∷ 0 ∷ [])
+    ∷ (from 1 true Fetch 0x7000, 1 ∷ 1 ∷ 2 ∷ 2 ∷ 0 ∷ 0 ∷ 0 ∷ 0 ∷ [])
     ∷ [])
 
 -- PLACES. Under the mark no hint answers, so that each access shows whether its page's entry is there. Pages 5 and 0x405 share a slot,
@@ -142,41 +111,23 @@ one_to_three s =
 abbrev pub WorkedSlots : Type 0
 WorkedSlots =
     Shows one_to_three
-    (from 1 true Read 0x5000
-    ∷ from 1 true Read 0x405000
-    ∷ from 1 true Read 0x5000
-    ∷ from 1 true Read 0x205000
-    ∷ from 1 true Read 0x5000
-    ∷ asked El2 2 true Read 0x5000 (open-page 3)
-    ∷ asked El3 3 true Read 0x5000 (open-page 3)
-    ∷ asked El2 2 true Read 0x5000 (open-page 3)
-    ∷ from 1 true Read 0x5000
-    ∷ from 1 false Read 0x5000
-    ∷ from 1 false Read 0x5000
-    ∷ from 1 false Read 0x105000
-    ∷ from 1 false Read 0x5000
-    ∷ from 1 false Read 0x10D000
-    ∷ from 1 false Read 0x5000
-    ∷ from 1 false Read 0x425000
-    ∷ from 1 false Read 0x5000
-    ∷ [])
-    ((0 ∷ 1 ∷ 0 ∷ 0 ∷ 0 ∷ 0 ∷ [])
-    ∷ (0 ∷ 2 ∷ 0 ∷ 0 ∷ 0 ∷ 0 ∷ [])
-    ∷ (0 ∷ 3 ∷ 0 ∷ 0 ∷ 0 ∷ 0 ∷ [])
-    ∷ (0 ∷ 4 ∷ 0 ∷ 0 ∷ 0 ∷ 0 ∷ [])
-    ∷ (1 ∷ 4 ∷ 0 ∷ 0 ∷ 0 ∷ 0 ∷ [])
-    ∷ (1 ∷ 4 ∷ 0 ∷ 1 ∷ 0 ∷ 0 ∷ [])
-    ∷ (1 ∷ 4 ∷ 0 ∷ 1 ∷ 0 ∷ 1 ∷ [])
-    ∷ (1 ∷ 4 ∷ 0 ∷ 2 ∷ 0 ∷ 1 ∷ [])
-    ∷ (1 ∷ 5 ∷ 0 ∷ 2 ∷ 0 ∷ 1 ∷ [])
-    ∷ (2 ∷ 5 ∷ 0 ∷ 2 ∷ 0 ∷ 1 ∷ [])
-    ∷ (2 ∷ 5 ∷ 0 ∷ 2 ∷ 0 ∷ 1 ∷ [])
-    ∷ (2 ∷ 6 ∷ 0 ∷ 2 ∷ 0 ∷ 1 ∷ [])
-    ∷ (2 ∷ 6 ∷ 0 ∷ 2 ∷ 0 ∷ 1 ∷ [])
-    ∷ (2 ∷ 7 ∷ 0 ∷ 2 ∷ 0 ∷ 1 ∷ [])
-    ∷ (3 ∷ 7 ∷ 0 ∷ 2 ∷ 0 ∷ 1 ∷ [])
-    ∷ (3 ∷ 8 ∷ 0 ∷ 2 ∷ 0 ∷ 1 ∷ [])
-    ∷ (4 ∷ 8 ∷ 0 ∷ 2 ∷ 0 ∷ 1 ∷ [])
+    ((from 1 true Read 0x5000, 0 ∷ 1 ∷ 0 ∷ 0 ∷ 0 ∷ 0 ∷ [])
+    ∷ (from 1 true Read 0x405000, 0 ∷ 2 ∷ 0 ∷ 0 ∷ 0 ∷ 0 ∷ [])
+    ∷ (from 1 true Read 0x5000, 0 ∷ 3 ∷ 0 ∷ 0 ∷ 0 ∷ 0 ∷ [])
+    ∷ (from 1 true Read 0x205000, 0 ∷ 4 ∷ 0 ∷ 0 ∷ 0 ∷ 0 ∷ [])
+    ∷ (from 1 true Read 0x5000, 1 ∷ 4 ∷ 0 ∷ 0 ∷ 0 ∷ 0 ∷ [])
+    ∷ (asked El2 2 true Read 0x5000 (open-page 3), 1 ∷ 4 ∷ 0 ∷ 1 ∷ 0 ∷ 0 ∷ [])
+    ∷ (asked El3 3 true Read 0x5000 (open-page 3), 1 ∷ 4 ∷ 0 ∷ 1 ∷ 0 ∷ 1 ∷ [])
+    ∷ (asked El2 2 true Read 0x5000 (open-page 3), 1 ∷ 4 ∷ 0 ∷ 2 ∷ 0 ∷ 1 ∷ [])
+    ∷ (from 1 true Read 0x5000, 1 ∷ 5 ∷ 0 ∷ 2 ∷ 0 ∷ 1 ∷ [])
+    ∷ (from 1 false Read 0x5000, 2 ∷ 5 ∷ 0 ∷ 2 ∷ 0 ∷ 1 ∷ [])
+    ∷ (from 1 false Read 0x5000, 2 ∷ 5 ∷ 0 ∷ 2 ∷ 0 ∷ 1 ∷ [])
+    ∷ (from 1 false Read 0x105000, 2 ∷ 6 ∷ 0 ∷ 2 ∷ 0 ∷ 1 ∷ [])
+    ∷ (from 1 false Read 0x5000, 2 ∷ 6 ∷ 0 ∷ 2 ∷ 0 ∷ 1 ∷ [])
+    ∷ (from 1 false Read 0x10D000, 2 ∷ 7 ∷ 0 ∷ 2 ∷ 0 ∷ 1 ∷ [])
+    ∷ (from 1 false Read 0x5000, 3 ∷ 7 ∷ 0 ∷ 2 ∷ 0 ∷ 1 ∷ [])
+    ∷ (from 1 false Read 0x425000, 3 ∷ 8 ∷ 0 ∷ 2 ∷ 0 ∷ 1 ∷ [])
+    ∷ (from 1 false Read 0x5000, 4 ∷ 8 ∷ 0 ∷ 2 ∷ 0 ∷ 1 ∷ [])
     ∷ [])
 
 -- COVERING. A leaf of level 1 spans 2^18 pages, of level 2 2^9, of level 3 one; a page's low 44 bits count and no higher one; a leaf for
@@ -199,61 +150,33 @@ small = asked El1 1 true Read 0x40003000 (open-page 3)
 abbrev pub WorkedCovers : Type 0
 WorkedCovers =
     Shows hits_and_walks
-    (giant
-    ∷ large
-    ∷ small
-    ∷ invalidates (Page 0x3FFFF)
-    ∷ invalidates (Page 0x80000)
-    ∷ giant
-    ∷ large
-    ∷ small
-    ∷ invalidates (Page 0x10000007FFFF)
-    ∷ large
-    ∷ small
-    ∷ giant
-    ∷ invalidates (Page 0x100000040200)
-    ∷ large
-    ∷ giant
-    ∷ invalidates (Page 0x1000000401FF)
-    ∷ small
-    ∷ giant
-    ∷ large
-    ∷ invalidates (Page 0x40002)
-    ∷ invalidates (Page 0x80000040003)
-    ∷ small
-    ∷ invalidates (Page 0x100000040003)
-    ∷ small
-    ∷ invalidates (Asid 0)
-    ∷ retags 3
-    ∷ small
-    ∷ [])
-    ((0 ∷ 1 ∷ [])
-    ∷ (0 ∷ 2 ∷ [])
-    ∷ (0 ∷ 3 ∷ [])
-    ∷ (0 ∷ 3 ∷ [])
-    ∷ (0 ∷ 3 ∷ [])
-    ∷ (1 ∷ 3 ∷ [])
-    ∷ (2 ∷ 3 ∷ [])
-    ∷ (3 ∷ 3 ∷ [])
-    ∷ (3 ∷ 3 ∷ [])
-    ∷ (4 ∷ 3 ∷ [])
-    ∷ (5 ∷ 3 ∷ [])
-    ∷ (5 ∷ 4 ∷ [])
-    ∷ (5 ∷ 4 ∷ [])
-    ∷ (6 ∷ 4 ∷ [])
-    ∷ (6 ∷ 5 ∷ [])
-    ∷ (6 ∷ 5 ∷ [])
-    ∷ (7 ∷ 5 ∷ [])
-    ∷ (7 ∷ 6 ∷ [])
-    ∷ (7 ∷ 7 ∷ [])
-    ∷ (7 ∷ 7 ∷ [])
-    ∷ (7 ∷ 7 ∷ [])
-    ∷ (8 ∷ 7 ∷ [])
-    ∷ (8 ∷ 7 ∷ [])
-    ∷ (8 ∷ 8 ∷ [])
-    ∷ (8 ∷ 8 ∷ [])
-    ∷ (8 ∷ 8 ∷ [])
-    ∷ (9 ∷ 8 ∷ [])
+    ((giant, 0 ∷ 1 ∷ [])
+    ∷ (large, 0 ∷ 2 ∷ [])
+    ∷ (small, 0 ∷ 3 ∷ [])
+    ∷ (invalidates (Page 0x3FFFF), 0 ∷ 3 ∷ [])
+    ∷ (invalidates (Page 0x80000), 0 ∷ 3 ∷ [])
+    ∷ (giant, 1 ∷ 3 ∷ [])
+    ∷ (large, 2 ∷ 3 ∷ [])
+    ∷ (small, 3 ∷ 3 ∷ [])
+    ∷ (invalidates (Page 0x10000007FFFF), 3 ∷ 3 ∷ [])
+    ∷ (large, 4 ∷ 3 ∷ [])
+    ∷ (small, 5 ∷ 3 ∷ [])
+    ∷ (giant, 5 ∷ 4 ∷ [])
+    ∷ (invalidates (Page 0x100000040200), 5 ∷ 4 ∷ [])
+    ∷ (large, 6 ∷ 4 ∷ [])
+    ∷ (giant, 6 ∷ 5 ∷ [])
+    ∷ (invalidates (Page 0x1000000401FF), 6 ∷ 5 ∷ [])
+    ∷ (small, 7 ∷ 5 ∷ [])
+    ∷ (giant, 7 ∷ 6 ∷ [])
+    ∷ (large, 7 ∷ 7 ∷ [])
+    ∷ (invalidates (Page 0x40002), 7 ∷ 7 ∷ [])
+    ∷ (invalidates (Page 0x80000040003), 7 ∷ 7 ∷ [])
+    ∷ (small, 8 ∷ 7 ∷ [])
+    ∷ (invalidates (Page 0x100000040003), 8 ∷ 7 ∷ [])
+    ∷ (small, 8 ∷ 8 ∷ [])
+    ∷ (invalidates (Asid 0), 8 ∷ 8 ∷ [])
+    ∷ (retags 3, 8 ∷ 8 ∷ [])
+    ∷ (small, 9 ∷ 8 ∷ [])
     ∷ [])
 
 -- RIGHTS. Which of the six permission bits lets an access pass, each on a page that has this bit alone: EL0's read, write and fetch are bits 1, 2
@@ -303,31 +226,18 @@ fetch_from level mark va = fetches (access_by El1 level mark Fetch va (open-page
 abbrev pub WorkedFetches : Type 0
 WorkedFetches =
     Shows none_and_one
-    (fetch_from 1 false 0x7000
-    ∷ fetch_from 1 false 0x7008
-    ∷ fetch_from 1 true 0x7008
-    ∷ fetch_from 0 false 0x7000
-    ∷ fetch_from 0 false 0x7000
-    ∷ fetch_from 1 false 0x7000
-    ∷ fetch_from 1 false 0x8000
-    ∷ fetch_from 1 false 0x7000
-    ∷ from 1 false Fetch 0x7000
-    ∷ fetch_from 1 false 0x7000
-    ∷ invalidates (Asid 9)
-    ∷ fetch_from 1 false 0x7000
-    ∷ [])
-    ((0 ∷ 0 ∷ 0 ∷ 1 ∷ [])
-    ∷ (0 ∷ 0 ∷ 0 ∷ 1 ∷ [])
-    ∷ (0 ∷ 0 ∷ 0 ∷ 1 ∷ [])
-    ∷ (1 ∷ 0 ∷ 0 ∷ 1 ∷ [])
-    ∷ (1 ∷ 0 ∷ 0 ∷ 1 ∷ [])
-    ∷ (1 ∷ 0 ∷ 1 ∷ 1 ∷ [])
-    ∷ (1 ∷ 0 ∷ 1 ∷ 2 ∷ [])
-    ∷ (1 ∷ 0 ∷ 2 ∷ 2 ∷ [])
-    ∷ (1 ∷ 0 ∷ 3 ∷ 2 ∷ [])
-    ∷ (1 ∷ 0 ∷ 3 ∷ 2 ∷ [])
-    ∷ (1 ∷ 0 ∷ 3 ∷ 2 ∷ [])
-    ∷ (1 ∷ 0 ∷ 4 ∷ 2 ∷ [])
+    ((fetch_from 1 false 0x7000, 0 ∷ 0 ∷ 0 ∷ 1 ∷ [])
+    ∷ (fetch_from 1 false 0x7008, 0 ∷ 0 ∷ 0 ∷ 1 ∷ [])
+    ∷ (fetch_from 1 true 0x7008, 0 ∷ 0 ∷ 0 ∷ 1 ∷ [])
+    ∷ (fetch_from 0 false 0x7000, 1 ∷ 0 ∷ 0 ∷ 1 ∷ [])
+    ∷ (fetch_from 0 false 0x7000, 1 ∷ 0 ∷ 0 ∷ 1 ∷ [])
+    ∷ (fetch_from 1 false 0x7000, 1 ∷ 0 ∷ 1 ∷ 1 ∷ [])
+    ∷ (fetch_from 1 false 0x8000, 1 ∷ 0 ∷ 1 ∷ 2 ∷ [])
+    ∷ (fetch_from 1 false 0x7000, 1 ∷ 0 ∷ 2 ∷ 2 ∷ [])
+    ∷ (from 1 false Fetch 0x7000, 1 ∷ 0 ∷ 3 ∷ 2 ∷ [])
+    ∷ (fetch_from 1 false 0x7000, 1 ∷ 0 ∷ 3 ∷ 2 ∷ [])
+    ∷ (invalidates (Asid 9), 1 ∷ 0 ∷ 3 ∷ 2 ∷ [])
+    ∷ (fetch_from 1 false 0x7000, 1 ∷ 0 ∷ 4 ∷ 2 ∷ [])
     ∷ [])
 
 -- WHAT IS PENDING for other cores: an equal second broadcast leaves it, another makes it All, and what this core carries out does not count.

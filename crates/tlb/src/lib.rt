@@ -109,7 +109,7 @@ impl Tlb {
     }
 
     /// What translates the page VA[55:12] out, each block that covers it too, and every hint.
-    #[tactic(auto, using(crate::specs::Lists::sweep), unfolding(crate::specs::Tlb::drop_page_of))]
+    #[tactic(auto, using(crate::proofs::Lists::sweep), unfolding(crate::specs::Tlb::drop_page_of))]
     pub fn drop_page(&mut self, page: u64)
         ensures { self.new ≡ drop_page_of self.old page }
     {
@@ -163,7 +163,7 @@ impl Tlb {
     }
 
     /// What is not global and was walked for asid out, and every hint.
-    #[tactic(auto, using(crate::specs::Lists::sweep), unfolding(crate::specs::Tlb::drop_asid_of, crate::specs::Tlb::retag_of))]
+    #[tactic(auto, using(crate::proofs::Lists::sweep), unfolding(crate::specs::Tlb::drop_asid_of, crate::specs::Tlb::retag_of))]
     pub fn drop_asid(&mut self, asid: u16)
         ensures { self.new ≡ drop_asid_of self.old asid }
     {

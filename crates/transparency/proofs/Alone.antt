@@ -3,7 +3,8 @@ use Rattle.std.specs.Prelude.{◌≡◌, refl, List, [], ◌∷◌, ◌++◌, �
 use Rattle.std.proofs.Common.{sym, ap, subst, ◌∙◌, append-nil}
 use Rattle.word.specs.Bits.{align_down, wrap}
 use Rattle.word.specs.Ram.{width_of}
-use Rattle.tlb.specs.Asks.{Ask, translates, Given, kind_of, address_of, onward, onward-same}
+use Rattle.tlb.specs.Asks.{Ask, translates, Given, kind_of, address_of, onward}
+use Rattle.tlb.proofs.Asks.{onward-same}
 use Rattle.tlb.specs.declared.access.Kind.TheVariants as Kind
 use Rattle.tlb.specs.declared.Tlb.{Tlb}
 use Rattle.system.specs.declared.decode.SysOp.{SysOp}

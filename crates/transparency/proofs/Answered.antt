@@ -4,7 +4,8 @@ use Rattle.std.proofs.Math.Path.{refl, ap}
 use Rattle.std.proofs.Common.{sym, ap₂, ◌∙◌, append-nil, arith, le-ltb}
 use Rattle.word.specs.Bits.{align_down, wrap}
 use Rattle.word.specs.Ram.{width_of, bytes_in}
-use Rattle.tlb.specs.Asks.{translates, Given, onward-same}
+use Rattle.tlb.specs.Asks.{translates, Given}
+use Rattle.tlb.proofs.Asks.{onward-same}
 use Rattle.tlb.specs.declared.access.Kind.TheVariants as Kind
 use Rattle.tlb.specs.declared.Tlb.{Tlb}
 use Rattle.tlb.specs.Answers.{Answer}

@@ -5,7 +5,8 @@ use Rattle.std.proofs.Common.{sym, ap, subst, ◌∙◌, arith, append-nil, eqb-
 use Rattle.std.proofs.lemmas.Bool.{eqb-false}
 use Rattle.walk.specs.declared.{regime.Regime.Regime, level.Leaf.Leaf}
 use Rattle.tlb.specs.Asks.{Ask, Given, kind_of, address_of}
-use Rattle.tlb.specs.Lists.{Each, each-imp}
+use Rattle.tlb.specs.Lists.{Each}
+use Rattle.tlb.proofs.Lists.{each-imp}
 use Rattle.tlb.specs.Model.{span_bits}
 use Rattle.tlb.specs.declared.{access.Kind.Kind, Inval.Inval}
 use Rattle.tlb.specs.declared.Inval.TheVariants.{All, Page, Asid}

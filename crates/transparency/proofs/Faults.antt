@@ -11,7 +11,8 @@ use Rattle.word.specs.declared.ram.Width.{Width}
 use Rattle.fault.specs.First.{first}
 use Rattle.fault.specs.declared.Fault.{Fault}
 use Rattle.tlb.specs.Lists.{Each, done, more}
-use Rattle.tlb.specs.Asks.{Ask, translates, fetches, address_of, Given, onward, onward-same}
+use Rattle.tlb.specs.Asks.{Ask, translates, fetches, address_of, Given, onward}
+use Rattle.tlb.proofs.Asks.{onward-same}
 use Rattle.tlb.specs.declared.{access.Kind.Kind, Tlb.Tlb}
 use Rattle.tlb.specs.Answers.{Answer}
 use Rattle.operations.specs.Answers.{Placed, Verdict, fault_at, outside_at}

@@ -8,9 +8,11 @@ use Rattle.std.proofs.lemmas.Bool.{false≢true}
 use Rattle.word.specs.Bits.{align_down, wrap}
 use Rattle.word.specs.Ram.{width_of}
 use Rattle.tlb.specs.Asks.{translates, fetches}
-use Rattle.tlb.specs.Counting.{how_counted, fetch-counts, sums}
+use Rattle.tlb.specs.Counting.{how_counted, sums}
+use Rattle.tlb.proofs.Counting.{fetch-counts}
 use Rattle.tlb.specs.Live.{counters_of}
-use Rattle.tlb.specs.Lists.{Each, done, each-imp}
+use Rattle.tlb.specs.Lists.{Each, done}
+use Rattle.tlb.proofs.Lists.{each-imp}
 use Rattle.tlb.specs.Model.{Counters, Model, empty_model}
 use Rattle.tlb.specs.declared.access.Kind.TheVariants as Kind
 use Rattle.tlb.specs.declared.Tlb.{Tlb}

@@ -1,7 +1,7 @@
 use Rattle.std.proofs.Common.{refl, ap}
 use Rattle.tlb.specs.declared.count.Tally.{Tally}
 use Rattle.tlb.specs.Count.{no_tally, no_tallies}
-use Rattle.tlb.specs.Lists.{replicate-at}
+use Rattle.tlb.proofs.Lists.{replicate-at}
 use Rattle.exception.specs.Pstate.{spsr_of}
 use Rattle.cpu.specs.Core.{fresh_core}
 use Rattle.cpu.proofs.Keeping.{fresh-general}

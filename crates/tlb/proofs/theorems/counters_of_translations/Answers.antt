@@ -1,4 +1,4 @@
-use Rattle.tlb.specs.Counting.{translate-counts, fetch-counts, counted-others, mark-free, sums-move}
+use Rattle.tlb.proofs.Counting.{translate-counts, fetch-counts, counted-others, mark-free, sums-move}
 use Rattle.tlb.proofs.Levels.{hit-counted, walk-counted}
 use Rattle.tlb.proofs.theorems.counters_of_translations.Goals as goal
 

@@ -28,6 +28,10 @@ pub and-true : (x : Bool) → x && true ≡ x
 and-true true = refl
 and-true false = refl
 
+pub if-ap : {A B : Type 0} (f : A → B) (b : Bool) (x y : A) → f (if b then x else y) ≡ (if b then f x else f y)
+if-ap f true x y = refl
+if-ap f false x y = refl
+
 -- a number made of two parts is compared by its parts
 pub both-parts : (m k v l : ℕ) → 0 < m → l < m → (k == v * m + l) ≡ (k / m == v) && k % m == l
 both-parts m k v l pos h = go (k == v * m + l) refl
@@ -63,14 +67,9 @@ module _ (a p : ℕ) (e : Entry) where
       → if (x && same_regime s r) && reaches (reach_of e.global e.asid) a then holds (line_in s e) else empty
       ≡ (if (x && regime_number s == regime_number r) && (e.global || e.asid == a) then holds (line_in r e) else empty)
   in-regime El1 El1 x = rw reach-is
-  in-regime El1 El2 x = rw and-false
-  in-regime El1 El3 x = rw and-false
-  in-regime El2 El1 x = rw and-false
   in-regime El2 El2 x = rw reach-is
-  in-regime El2 El3 x = rw and-false
-  in-regime El3 El1 x = rw and-false
-  in-regime El3 El2 x = rw and-false
   in-regime El3 El3 x = rw reach-is
+  in-regime r s x = rw and-false
 
   no-regime : (r : Regime) (x y : Bool) → (x && 0 == regime_number r) && y ≡ false
   no-regime El1 x y = rw and-false
