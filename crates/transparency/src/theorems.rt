@@ -4,7 +4,7 @@ ghost use Rattle.cpu.specs.Core.{fresh_core};
 ghost use Rattle.history.specs.Calls.{Bridge, EveryCallFaithful, RepliesByAnswers, SameReplies, InvisibleCalls};
 ghost use Rattle.history.specs.Instance.{real};
 ghost use Rattle.transparency.specs.Claim.{every_list, steps_are_calls};
-ghost use Rattle.transparency.specs.Replies.{every_step_replies};
+ghost use Rattle.transparency.specs.Replies.{every_step_replies, parts_follow, parts_end};
 ghost use Rattle.transparency.specs.Says.{answered_step};
 ghost use Rattle.transparency.specs.Premise.{same_premise};
 ghost use Rattle.transparency.specs.Machine.{machine};
@@ -37,13 +37,17 @@ ghost use Rattle.transparency.specs.Bytes.{zva_after};
 /// The claim for every history, as `specs/Claim.antt` states it: at each step of every list of calls, whatever RAM is,
 /// each translation of a settled page is answered as by the core without a cache, and where all pages of a step are
 /// settled so are its reply and RAM. A step's reply is made from its answers. The steps of a list, each store of a
-/// zeroing by itself, leave the core as its calls do, and a page is settled just where the theory of histories has it
-/// so. Rules out an entry or a hint that outlives its invalidation, and a premise that asks for more than it says.
+/// zeroing by itself, leave the core as its calls do; each begins on the RAM that the one before left, and the last of a
+/// call's replies, and leaves RAM, as the call does. A page is settled just where the theory of histories has it so. Rules
+/// out an entry or a hint that outlives its invalidation, a premise that asks for more than it says, and a zeroing shown by
+/// other RAM than its own.
 pub fn every_list()
     ensures faithful { every_list }
     ensures replies { every_step_replies }
     ensures answered { answered_step }
     ensures steps { steps_are_calls }
+    ensures stores_follow { parts_follow }
+    ensures stores_end { parts_end }
     ensures premise { same_premise }
 {}
 
