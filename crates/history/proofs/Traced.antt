@@ -11,6 +11,18 @@ use Rattle.tlb.specs.declared.{access.Kind.Kind, Inval.Inval}
 use Rattle.tlb.specs.declared.access.Kind.TheVariants.{Read, Write, Fetch}
 use Rattle.tlb.specs.declared.Inval.TheVariants.{All, Page, Asid}
 use Rattle.history.specs.World.{World, Laws, covers, page_walk}
+use Rattle.history.specs.Theorems.{covered_as_dropped}
+
+belongs : (g : Bool) (a b : ℕ) → belongs_to (reach_of g a) b ≡ (not g && a == b)
+belongs true a b = refl
+belongs false a b = refl
+
+-- no fewer walks than the model drops lines, and no more
+pub covered-as-dropped : covered_as_dropped
+unfolding covers
+covered-as-dropped All ℓ a asid = refl
+covered-as-dropped (Page n) ℓ a asid = refl
+covered-as-dropped (Asid b) ℓ a asid = sym (belongs ℓ.global asid b)
 
 module _ (w : World) where
   -- The history as moments, the last one first: a step begins, on these registers and this RAM; or an invalidation is
@@ -110,10 +122,6 @@ module _ (w : World) where
       }
 
   -- INVALIDATION: what it spares, it does not cover
-
-  belongs : (g : Bool) (a b : ℕ) → belongs_to (reach_of g a) b ≡ (not g && a == b)
-  belongs true a b = refl
-  belongs false a b = refl
 
   same-cover : (h : List Moment) (v : Inval) (l : Line) (o : LineFrom h l) → covers v l.page o.leaf o.under ≡ coversLine v l
   unfolding covers

@@ -1,6 +1,6 @@
 -- What is proved of every history of a core with the real registers and walk: the statements that src/theorems.rt
 -- promises. RAM, at each step and now, is any.
-use Rattle.std.specs.Prelude.{◌≡◌, true, false, List, ℕ, ◌+◌, ◌-◌, ◌%◌, ◌^◌, ◌≤◌, ◌<◌, length, get_or, Err}
+use Rattle.std.specs.Prelude.{◌≡◌, true, false, List, ℕ, ◌+◌, ◌-◌, ◌/◌, ◌%◌, ◌^◌, ◌≤◌, ◌<◌, length, get_or, Err}
 use mathlib.Core.List.{Memᴰ}
 use Rattle.word.specs.Ram.{word_at}
 use Rattle.fault.specs.declared.Fault.{Fault}
@@ -8,14 +8,14 @@ use Rattle.sysreg.specs.Shape.{asid_of}
 use Rattle.walk.specs.Fetches.{fetches_of}
 use Rattle.walk.specs.Regime.{bank_of}
 use Rattle.walk.specs.Table.{Translation, mapped, table_walk}
-use Rattle.walk.specs.declared.regime.Regime.{Regime}
+use Rattle.walk.specs.declared.{regime.Regime.Regime, level.Leaf.Leaf}
 use Rattle.tlb.specs.Asks.{Ask, address_of, Given}
 use Rattle.tlb.specs.Counting.{sums}
 use Rattle.tlb.specs.Lists.{Each}
-use Rattle.tlb.specs.Model.{Model, empty_model}
+use Rattle.tlb.specs.Model.{Model, Access, empty_model, line_of_leaf, covers as drops_line}
 use Rattle.tlb.specs.Tlb.{fresh}
-use Rattle.tlb.specs.declared.{access.Kind.Kind}
-use Rattle.history.specs.World.{Plain, regime_now, untag_now, on_now, need_now, uncached}
+use Rattle.tlb.specs.declared.{access.Kind.Kind, Inval.Inval}
+use Rattle.history.specs.World.{covers, Plain, regime_now, untag_now, on_now, need_now, uncached}
 use Rattle.history.specs.History.{Step, Event, plain_run, answers, tlb_run, answer_of, Settled}
 use Rattle.history.specs.Fresh.{fresh_now, fresh_answer}
 use Rattle.history.specs.Instance.{Ram, window_of, memory_of, real, fresh_plain}
@@ -121,6 +121,11 @@ abbrev pub settled_by_asid : Type 0
 settled_by_asid =
     (past : History) (m : Ram) (r : Regime) (p : ℕ) → Own real fresh_plain past m r p
     → Settled real fresh_plain past m r p
+
+-- an invalidation covers a walk just where the plain model drops the line that the walk left: no fewer walks, and no more
+abbrev pub covered_as_dropped : Type 0
+covered_as_dropped =
+    (v : Inval) (ℓ : Leaf) (a : Access) (asid : ℕ) → covers v (a.untagged / 4096) ℓ asid ≡ drops_line v (line_of_leaf ℓ a asid)
 
 -- NEIGHBOURS: histories that come to the same registers, level and mark, and leave the address's page to one ASID, give
 -- it one answer, on RAMs of one window that agree on the bytes of each descriptor that its walk fetches.

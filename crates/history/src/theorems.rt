@@ -6,7 +6,8 @@ ghost use Rattle.history.specs.World.{Laws};
 ghost use Rattle.history.specs.Theorems.{every_origin, every_judgement, every_fault_row};
 ghost use Rattle.history.specs.Theorems.{every_cache_modelled, every_answer_modelled, every_asid_current};
 ghost use Rattle.history.specs.Theorems.{hits_by_level, walks_by_level, sums_as_rust, other_levels_stay};
-ghost use Rattle.history.specs.Theorems.{settled_when_off, settled_by_steps, settled_by_asid, same_for_neighbours};
+ghost use Rattle.history.specs.Theorems.{settled_when_off, settled_by_steps, settled_by_asid, covered_as_dropped};
+ghost use Rattle.history.specs.Theorems.{same_for_neighbours};
 ghost use Rattle.history.specs.Theorems.{uncached_is_fresh, uncached_is_checked};
 
 /// The real registers and walk keep the laws that the theory of histories rests on: a register write that leaves
@@ -54,11 +55,13 @@ pub fn every_count()
 {}
 
 /// Ways to show that a page is settled: stage 1 is off, the premise holds step by step, or the history leaves the page
-/// to the ASID of now. Rules out a premise that asks for more than the walks which could still be in the cache.
+/// to the ASID of now. An invalidation covers the walks whose lines the plain model drops. Rules out a premise that asks
+/// for more than the walks which could still be in the cache, and a covering that is narrower than the invalidation.
 pub fn settled_pages()
     ensures off { settled_when_off }
     ensures steps { settled_by_steps }
     ensures asid { settled_by_asid }
+    ensures covered { covered_as_dropped }
 {}
 
 /// What runs under other ASIDs does not bend a page's translation: two histories that leave the page to one ASID give

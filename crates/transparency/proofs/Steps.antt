@@ -16,12 +16,13 @@ use Rattle.operations.specs.declared.{call.Call.Call, call.Reply.Reply}
 use Rattle.system.specs.declared.decode.Encoding.{Encoding}
 use Rattle.operations.specs.declared.call.Call.TheVariants.{Store, System}
 use Rattle.operations.specs.declared.call.Reply.TheVariants.{Done, Refused}
-use Rattle.cpu.specs.System.{zero_of, on_stored, sys_of, sys_by}
+use Rattle.cpu.specs.System.{zero_of, zero_ram, on_stored, sys_of, sys_by, sys_ram, sys_ram_by}
 use Rattle.cpu.specs.Step.{Stepped, after_store, ends, refused_or, run_of, step_of, ram_of, ram_after}
 use Rattle.history.specs.Instance.{Ram, window_of}
 use Rattle.transparency.specs.Bare.{number, by_sys, missed_in, op_in, operand_in, bare_step}
 use Rattle.transparency.specs.Steps.{Step, core_run, bare_run, on_done, stores, zeroing, zeroed, parts_by, steps_run}
 use Rattle.transparency.specs.Claim.{steps_are_calls}
+use Rattle.transparency.specs.Replies.{Outcome, outcome, outcome_of, Follow, outcome_run, parts_follow, parts_end}
 use Rattle.transparency.proofs.Bridge.{bridge, stored-bare}
 
 -- NO STEP ZEROES
@@ -159,3 +160,79 @@ steps-apart c (s ∷ l) =
 
 pub steps-are-calls : steps_are_calls
 steps-are-calls list = steps-core fresh_core list
+
+-- EACH BEGINS ON THE RAM THAT THE ONE BEFORE LEFT
+
+follow-on : (c : Core) (m : Ram) (r : Reply) (l : List Step) → Follow c m l → Follow c m (on_done r l [])
+follow-on c m Done l f = f
+follow-on c m _ l f = tt
+
+stores-follow : (n : ℕ) (c : Core) (m : Ram) (va : ℕ) → Follow c m (stores n c m va)
+stores-follow zero c m va = tt
+stores-follow (suc n) c m va = (refl, follow-on _ _ _ _ (stores-follow n _ _ (wrap (va + 8))))
+
+pub parts-follow : parts_follow
+parts-follow c s = go (zeroed (bare_of c) s.ram s.call)
+  where
+    go : (z : Option ℕ) → Follow c s.ram (parts_by z c s)
+    go (Some va) = stores-follow 8 c s.ram va
+    go None = (refl, tt)
+
+-- THE LAST REPLIES, AND LEAVES RAM, AS THE CALL
+
+stores-end : (n : ℕ) (c : Core) (m : Ram) (va : ℕ) → missed_in (bare_of c) m (Store va 8 0) ≡ 0
+    → outcome_run c (outcome Done m.bytes) (stores n c m va)
+    ≡ outcome (storing (zero_of n c m.base m.bytes va).answer) (zero_ram n c m.base m.bytes va)
+unfolding zero_of zero_ram
+stores-end zero c m va passed = refl
+stores-end (suc n) c m va passed =
+    ap₂ after (store-steps c m va passed) (store-leaves c m va passed)
+    ∙ go (write_of c m.base m.bytes va 8).answer refl (stores-end n d left (wrap (va + 8)) (next-passed c m va passed (wrap (va + 8))))
+  where
+    -- after the first store, by its outcome and the bytes that it leaves
+    after : Stepped → List ℕ → Outcome
+    after made bytes =
+        outcome_run made.core (outcome made.reply bytes)
+        (on_done made.reply (stores n made.core (window_of m.base bytes) (wrap (va + 8))) [])
+
+    d : Core
+    d = (write_of c m.base m.bytes va 8).core
+
+    left : Ram
+    left = window_of m.base (ram_after_write c m.base m.bytes va 8 0)
+
+    go : (a : StoreAnswer) → (write_of c m.base m.bytes va 8).answer ≡ a
+        → outcome_run d (outcome Done left.bytes) (stores n d left (wrap (va + 8)))
+        ≡ outcome (storing (zero_of n d m.base left.bytes (wrap (va + 8))).answer) (zero_ram n d m.base left.bytes (wrap (va + 8)))
+        → outcome_run d (outcome (storing a) left.bytes) (on_done (storing a) (stores n d left (wrap (va + 8))) [])
+        ≡ outcome (storing (on_stored a (zero_of n d m.base left.bytes (wrap (va + 8))) (write_of c m.base m.bytes va 8)).answer)
+        (on_stored a (zero_ram n d m.base left.bytes (wrap (va + 8))) left.bytes)
+    go (Ok x) e rest = rest
+    go (Err s) e rest = ap (λ (a : StoreAnswer). outcome (storing a) left.bytes) (sym e)
+
+zva-ends : (c : Core) (m : Ram) (e : Encoding) (n : ℕ) (o : SysOp) (va : ℕ) → missed_in (bare_of c) m (System e) ≡ n
+    → zeroing (refused_or n number (by_sys o)) o (operand_in (bare_of c) e) ≡ Some va
+    → outcome_run c (outcome Done m.bytes) (stores 8 c m va)
+    ≡ outcome
+    (refused_or n (λ k. ends c (Refused k))
+    (after_store (sys_by o c m.base m.bytes e.op1 e.crm e.op2 (operand_in (bare_of c) e)))).reply
+    (refused_or n (λ k. m.bytes) (sys_ram_by o c m.base m.bytes (operand_in (bare_of c) e)))
+zva-ends c m e zero Op.Zva va p z =
+    let q : align_down (operand_in (bare_of c) e) 6 ≡ va = cc in
+    stores-end 8 c m va (store-passed (bare_of c) m e va p) ∙ rw (sym q) refl
+zva-ends c m e zero _ va p z = absurd (let y : ◌≡◌ {A = ℕ} 0 1 = cc in omega arith)
+zva-ends c m e (suc n) o va p z = absurd (let y : ◌≡◌ {A = ℕ} 0 1 = cc in omega arith)
+
+zeroed-end : (c : Core) (m : Ram) (x : Call) (va : ℕ) → zeroed (bare_of c) m x ≡ Some va
+    → outcome_run c (outcome Done m.bytes) (stores 8 c m va) ≡ outcome_of c m x
+unfolding step_of run_of sys_of reg_of ram_after ram_of sys_ram
+zeroed-end c m (System e) va z = zva-ends c m e (missed_in (bare_of c) m (System e)) (op_in (bare_of c) e) va refl z
+zeroed-end c m _ va z = absurd (let y : ◌≡◌ {A = ℕ} 0 1 = cc in omega arith)
+
+pub parts-end : parts_end
+parts-end c s = go (zeroed (bare_of c) s.ram s.call) refl
+  where
+    go : (z : Option ℕ) → zeroed (bare_of c) s.ram s.call ≡ z
+        → outcome_run c (outcome Done s.ram.bytes) (parts_by z c s) ≡ outcome_of c s.ram s.call
+    go (Some va) e = zeroed-end c s.ram s.call va e
+    go None e = refl

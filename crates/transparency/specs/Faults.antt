@@ -20,12 +20,22 @@ use Rattle.transparency.specs.Faithful.{answers_after}
 
 -- REPLIES
 
--- the reply is this fault at this address
+-- The reply is this fault at this address. Every kind of reply has its line, so that a new one has to say which it is.
 abbrev pub RepliesFault : Reply → ℕ → Fault → Type 0
 RepliesFault (Reply.Fault a f) addr fault = (a ≡ addr) × (f ≡ fault)
 RepliesFault (Reply.Stopped (Stop.Exception (Exception.DataAbort a))) addr fault = (a.addr ≡ addr) × (a.fault ≡ fault)
 RepliesFault (Reply.Stopped (Stop.Exception (Exception.InsnAbort a))) addr fault = (a.addr ≡ addr) × (a.fault ≡ fault)
-RepliesFault _ addr fault = ⊥
+RepliesFault (Reply.Refused n) addr fault = ⊥
+RepliesFault Reply.Done addr fault = ⊥
+RepliesFault (Reply.Value v) addr fault = ⊥
+RepliesFault Reply.Faults addr fault = ⊥
+RepliesFault (Reply.Stopped Stop.Unimplemented) addr fault = ⊥
+RepliesFault (Reply.Stopped (Stop.Exception Exception.Undefined)) addr fault = ⊥
+RepliesFault (Reply.Stopped (Stop.Exception (Exception.Svc imm))) addr fault = ⊥
+RepliesFault (Reply.Stopped (Stop.Exception (Exception.Hvc imm))) addr fault = ⊥
+RepliesFault (Reply.Stopped (Stop.Exception (Exception.Smc imm))) addr fault = ⊥
+RepliesFault (Reply.Stopped (Stop.Exception (Exception.Brk imm))) addr fault = ⊥
+RepliesFault (Reply.Stopped (Stop.Exception Exception.PcAlignment)) addr fault = ⊥
 
 -- Where it comes from, among the answers to the call's translations: from one that met this fault at this address; or,
 -- for an abort, from an access that begins at the address of one that was allowed, with the address of its byte i

@@ -17,8 +17,9 @@ pub mod Direct
 pub mod Faithful
 pub mod Judged
 pub mod Faults
--- A worked list.
+-- A worked list, and covering in numbers.
 pub mod Worked
+pub mod CoverRows
 -- The plain model of the cache, call by call.
 pub mod ModelCalls
 pub mod Counted

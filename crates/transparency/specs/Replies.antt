@@ -8,7 +8,7 @@ use Rattle.tlb.specs.declared.access.Kind.TheVariants as Kind
 use Rattle.system.specs.declared.decode.SysOp.{SysOp}
 use Rattle.system.specs.declared.decode.SysOp.TheVariants as Op
 use Rattle.tlb.specs.Lists.{Each}
-use Rattle.cpu.specs.Bare.{Bare, fresh_bare}
+use Rattle.cpu.specs.Bare.{Bare, fresh_bare, bare_of}
 use Rattle.cpu.specs.Core.{fresh_core}
 use Rattle.cpu.specs.Asks.{placed_from}
 use Rattle.operations.specs.Ends.{load_end, store_end, store_ram_end, fetch_end, reached_by}
@@ -21,7 +21,7 @@ use Rattle.operations.specs.declared.call.Reply.TheVariants.{Refused, Done}
 use Rattle.history.specs.Window.{Ram, window_of}
 use Rattle.transparency.specs.Bare.{op_in, operand_in, ruling_in, refusal_of, if_allowed}
 use Rattle.transparency.specs.Claim.{access_in, sized_in, asked, uncached, SettledFor}
-use Rattle.transparency.specs.Steps.{Step, core_run, bare_run, on_done, steps_run}
+use Rattle.transparency.specs.Steps.{Step, core_run, bare_run, on_done, zeroed, parts_by, steps_run}
 use Rattle.word.specs.declared.ram.Width.{Width}
 
 -- a reply, and RAM's bytes after the call
@@ -101,3 +101,24 @@ every_step_replies =
     (list before : List Step) (s : Step) (later : List Step) → steps_run fresh_core list ≡ before ++ s ∷ later →
     Each (λ a. SettledFor before s.ram (address_of a)) (asked (bare_run fresh_bare before) s) →
     outcome_of (core_run fresh_core before) s.ram s.call ≡ bare_reply (bare_run fresh_bare before) s.ram s.call
+
+-- THE STEPS OF A CALL, a DC ZVA's stores: each begins on the RAM that the one before left, the first on the call's, and
+-- the last replies, and leaves RAM, as the call does.
+abbrev pub parts_of : Core → Step → List Step
+parts_of c s = parts_by (zeroed (bare_of c) s.ram s.call) c s
+
+abbrev pub Follow : Core → Ram → List Step → Type 0
+Follow c m [] = Unit {0}
+Follow c m (s ∷ l) =
+    (s.ram ≡ m)
+    × Follow (step_of c m.base m.bytes s.call).core (window_of m.base (ram_after c m.base m.bytes s.call)) l
+
+abbrev pub outcome_run : Core → Outcome → List Step → Outcome
+outcome_run c o [] = o
+outcome_run c o (s ∷ l) = outcome_run (step_of c s.ram.base s.ram.bytes s.call).core (outcome_of c s.ram s.call) l
+
+abbrev pub parts_follow : Type 0
+parts_follow = (c : Core) (s : Step) → Follow c s.ram (parts_of c s)
+
+abbrev pub parts_end : Type 0
+parts_end = (c : Core) (s : Step) → outcome_run c (outcome Done s.ram.bytes) (parts_of c s) ≡ outcome_of c s.ram s.call

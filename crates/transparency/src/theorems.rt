@@ -4,7 +4,7 @@ ghost use Rattle.cpu.specs.Core.{fresh_core};
 ghost use Rattle.history.specs.Calls.{Bridge, EveryCallFaithful, RepliesByAnswers, SameReplies, InvisibleCalls};
 ghost use Rattle.history.specs.Instance.{real};
 ghost use Rattle.transparency.specs.Claim.{every_list, steps_are_calls};
-ghost use Rattle.transparency.specs.Replies.{every_step_replies};
+ghost use Rattle.transparency.specs.Replies.{every_step_replies, parts_follow, parts_end};
 ghost use Rattle.transparency.specs.Says.{answered_step};
 ghost use Rattle.transparency.specs.Premise.{same_premise};
 ghost use Rattle.transparency.specs.Machine.{machine};
@@ -21,6 +21,7 @@ ghost use Rattle.transparency.specs.Census.{census_faults, rights_allow, flat_al
 ghost use Rattle.transparency.specs.Judged.{every_call_judged, every_row};
 ghost use Rattle.transparency.specs.Faults.{every_replied_fault};
 ghost use Rattle.transparency.specs.Worked.{tidied_settled, by_cache, start_stale, start_unsettled, counted_by_level};
+ghost use Rattle.transparency.specs.CoverRows.{all_rows, page_rows, bit_rows, asid_rows, write_rows};
 ghost use Rattle.transparency.specs.ModelCalls.{every_core_well, every_list_modelled, every_call_modelled};
 ghost use Rattle.transparency.specs.Counted.{EveryTlbi, EveryWrite};
 ghost use Rattle.transparency.specs.Counted.{translate_counted, data_pa_counted, fetch_pa_counted, fetch_counted};
@@ -36,13 +37,17 @@ ghost use Rattle.transparency.specs.Bytes.{zva_after};
 /// The claim for every history, as `specs/Claim.antt` states it: at each step of every list of calls, whatever RAM is,
 /// each translation of a settled page is answered as by the core without a cache, and where all pages of a step are
 /// settled so are its reply and RAM. A step's reply is made from its answers. The steps of a list, each store of a
-/// zeroing by itself, leave the core as its calls do, and a page is settled just where the theory of histories has it
-/// so. Rules out an entry or a hint that outlives its invalidation, and a premise that asks for more than it says.
+/// zeroing by itself, leave the core as its calls do; each begins on the RAM that the one before left, and the last of a
+/// call's replies, and leaves RAM, as the call does. A page is settled just where the theory of histories has it so. Rules
+/// out an entry or a hint that outlives its invalidation, a premise that asks for more than it says, and a zeroing shown by
+/// other RAM than its own.
 pub fn every_list()
     ensures faithful { every_list }
     ensures replies { every_step_replies }
     ensures answered { answered_step }
     ensures steps { steps_are_calls }
+    ensures stores_follow { parts_follow }
+    ensures stores_end { parts_end }
     ensures premise { same_premise }
 {}
 
@@ -165,6 +170,17 @@ pub fn worked_list()
     ensures stale { start_stale }
     ensures unsettled { start_unsettled }
     ensures by_level { counted_by_level }
+{}
+
+/// Which TLBI and which register write covers which earlier walk, in numbers: all walks; those of a page, and with a block
+/// of the 2 MiB or 1 GiB about it, by bits 55:12; those of an ASID that are not global; and at a change of shape. Rules
+/// out a premise by which an invalidation covers too little, so that it asks for more than the scope, or too much.
+pub fn covering_in_numbers()
+    ensures all { all_rows }
+    ensures pages { page_rows }
+    ensures bits { bit_rows }
+    ensures asids { asid_rows }
+    ensures writes { write_rows }
 {}
 
 /// Every core that calls reach is well-formed: a level of 3 at most, the cache's invariant, the ASID of its registers;

@@ -1,7 +1,7 @@
 -- Laws of the output address size and of the first level: all that proofs above the definitions know of these.
-use Rattle.std.specs.Prelude.{Bool, true, false, ℕ, zero, suc, ◌-◌, ◌≤◌}
+use Rattle.std.specs.Prelude.{Bool, true, false, ℕ, zero, suc, refl, ◌≡◌, ◌-◌, ◌≤◌}
 use Rattle.std.proofs.Common.{arith}
-use Rattle.walk.specs.Size.{pa_size}
+use Rattle.walk.specs.Size.{pa_size, size_formula}
 use Rattle.walk.specs.Table.{firstblocklevel, levels_of, inputsize, startlevel_of, startlevel, addrselectbottom}
 use Rattle.walk.specs.declared.range.Range.{Range}
 
@@ -19,6 +19,16 @@ pa-size-low (suc (suc (suc (suc (suc n))))) = omega arith
 pub pa-size-high : (code : ℕ) → pa_size code ≤ 44
 unfolding pa_size
 pa-size-high code = omega arith
+
+-- the formula gives the size of every code, not only of eight
+pub formula_is : (code : ℕ) → size_formula code ≡ pa_size code
+unfolding pa_size
+formula_is zero = refl
+formula_is (suc zero) = refl
+formula_is (suc (suc zero)) = refl
+formula_is (suc (suc (suc zero))) = refl
+formula_is (suc (suc (suc (suc zero)))) = refl
+formula_is (suc (suc (suc (suc (suc n))))) = omega arith
 
 -- an input address has 25 to 48 bits
 pub input-low : (g : Range) → 25 ≤ inputsize g

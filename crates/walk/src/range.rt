@@ -1,5 +1,5 @@
 // What the registers say of a walk, and where it begins.
-ghost use Rattle.std.specs.Prelude.{◌≡◌, ◌%◌, ◌≤◌, ◌<◌};
+ghost use Rattle.std.specs.Prelude.{◌≡◌, ◌+◌, ◌*◌, ◌%◌, ◌≤◌, ◌<◌, min};
 ghost use Rattle.walk.specs.Size.{pa_size};
 ghost use Rattle.walk.specs.Table.{range_of, params_of, inputsize, in_range, startlevel_of, addrselectbottom};
 ghost use Rattle.walk.specs.State.{begin_of};
@@ -29,19 +29,14 @@ pub struct Range {
 /// Where a walk begins, or the status of the fault that keeps it from beginning.
 pub type Begin = Result<WalkState, u8>;
 
-/// `TCR.{I}PS` to a number of bits, capped at what the A72 implements.
-#[tactic(auto, unfolding(crate::specs::Size::pa_size))]
+/// `TCR.{I}PS` to a number of bits: the smallest of 32 plus four times the code, 36 plus twice the code, and the A72's 44.
 pub fn pa_bits(ps: u64) -> u64
+    ensures formula { result ≡ min (32 + 4 * (ps % 8)) (min (36 + 2 * (ps % 8)) 44) }
     ensures value { result ≡ pa_size (ps % 8) }
     ensures bounds { (32 ≤ result) × (result ≤ 44) }
 {
-    match ps % 8 {
-        0 => 32,
-        1 => 36,
-        2 => 40,
-        3 => 42,
-        _ => 44,
-    }
+    let code = ps % 8;
+    (32 + 4 * code).min(36 + 2 * code).min(44)
 }
 
 impl Bank {
