@@ -2,10 +2,9 @@
 ghost use Rattle.std.specs.Prelude.{◌≡◌};
 ghost use Rattle.cpu.specs.Inspect.{census_by};
 
-use crate::Core;
+use crate::call::Reply;
+use crate::{Core, check};
 use census::count;
-use operations::call::Reply;
-use operations::check;
 use walk::regime::{Bank, Regime};
 
 /// The 129 counts of a census, all 0 where it is refused, and its reply.

@@ -9,10 +9,17 @@ use tlb::Tlb;
 use tlb::access::Privilege;
 use walk::regime::{Bank, Regime};
 
+pub mod bytes;
+pub mod call;
+pub mod check;
+pub mod ends;
 mod fit;
 pub mod inspect;
+pub mod lookup;
 mod memory;
+pub mod place;
 mod registers;
+pub mod reply;
 mod step;
 mod sys;
 pub mod theorems;

@@ -6,11 +6,10 @@ ghost use Rattle.cpu.specs.Memory.{translate_of, past_hint_of, translate_fetch_o
 ghost use Rattle.cpu.specs.Hand.{HandedNow, KeptNow, NeedsWalkNow};
 ghost use Rattle.cpu.specs.Memory.{read_of, write_of, ram_after_write, fetch_of, fetch_pa_of, data_pa_of};
 
-use crate::Core;
+use crate::place::{FaultAt, Pages, Place};
+use crate::{Core, ends, lookup, place};
 use exception::kind::{Exception, Stop};
 use fault::Fault;
-use operations::place::{FaultAt, Pages, Place};
-use operations::{ends, lookup, place};
 use tlb::access::{Kind, Request};
 use word::ram::Width;
 

@@ -9,7 +9,7 @@ use Rattle.cpu.specs.Hand.{NeedsWalkNow}
 use Rattle.cpu.specs.Memory.{stepped_now, translate_of, past_hint_of}
 use Rattle.cpu.specs.Translations.{translate_in, past_hint_step}
 use Rattle.cpu.specs.declared.Core.{Core}
-use Rattle.operations.specs.declared.call.Reply.{Reply}
+use Rattle.cpu.specs.declared.call.Reply.{Reply}
 use Rattle.call_words.specs.Replies.{code_by, value_by}
 use Rattle.cpu.specs.Step.{Stepped}
 use Rattle.quick.specs.Says.{Tells, asked_reply, asked_run}

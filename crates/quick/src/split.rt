@@ -1,12 +1,11 @@
 // Loads and stores over two pages whose hints both serve and whose bytes lie in RAM.
 ghost use Rattle.std.specs.Prelude.{◌≡◌, ◌<◌, length};
 ghost use Rattle.word.specs.Ram.{bytes_in};
-ghost use Rattle.operations.specs.AtOnce.{both_inside, both_stored};
+ghost use Rattle.cpu.specs.AtOnce.{both_inside, both_stored};
 ghost use Rattle.quick.specs.Says.{OfTwo, PutTwo};
 
-use cpu::Core;
-use operations::place::Pages;
-use operations::{bytes, lookup, place};
+use cpu::place::Pages;
+use cpu::{Core, bytes, lookup, place};
 use tlb::access::Kind;
 use word::ram::Width;
 

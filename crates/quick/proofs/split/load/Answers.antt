@@ -5,9 +5,9 @@ use Rattle.walk.specs.declared.regime.Bank.{Bank}
 use Rattle.tlb.specs.Translate.{hint_in}
 use Rattle.tlb.specs.declared.access.Kind.TheVariants.{Read}
 use Rattle.cpu.specs.Core.{bank_now}
-use Rattle.operations.specs.Place.{in_page, next_page, crosses}
-use Rattle.operations.specs.AtOnce.{both_at}
-use Rattle.operations.proofs.Both.{both-loads}
+use Rattle.cpu.specs.Place.{in_page, next_page, crosses}
+use Rattle.cpu.specs.AtOnce.{both_at}
+use Rattle.cpu.proofs.Both.{both-loads}
 use Rattle.quick.proofs.OnePage.{two-read}
 use Rattle.quick.proofs.split.load.Goals as goal
 

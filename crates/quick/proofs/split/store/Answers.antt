@@ -5,8 +5,8 @@ use Rattle.walk.specs.declared.regime.Bank.{Bank}
 use Rattle.tlb.specs.Translate.{hint_in}
 use Rattle.tlb.specs.declared.access.Kind.TheVariants.{Write}
 use Rattle.cpu.specs.Core.{bank_now}
-use Rattle.operations.specs.Place.{next_page, crosses}
-use Rattle.operations.specs.AtOnce.{both_inside, both_stored}
+use Rattle.cpu.specs.Place.{next_page, crosses}
+use Rattle.cpu.specs.AtOnce.{both_inside, both_stored}
 use Rattle.quick.proofs.OneStore.{put-two}
 use Rattle.quick.proofs.split.store.Goals as goal
 
