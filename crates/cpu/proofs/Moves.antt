@@ -3,7 +3,9 @@ use Rattle.std.specs.Prelude.{if◌then◌else◌, Option, Some, None, Ok, Err}
 use Rattle.std.proofs.Common.{◌≡◌, ℕ, zero, suc, ◌+◌, ◌-◌, ◌*◌, ◌/◌, ◌^◌, ◌<◌, ◌≤◌, Bool, true, false, ◌&&◌, leb, List, length, get_or, sym, refl, ap, ◌∙◌, pow-suc, arith, leb-true}
 use native.Mathlib.Nat.{pow-le-pow_right}
 use Rattle.word.specs.Ram.{little_endian, within, word_at, stored}
-use Rattle.cpu.specs.Place.{byte_at, first_outside, verdict_of}
+use Rattle.cpu.specs.Place.{byte_at, first_outside, verdict_of, bytes_before, Lie}
+use Rattle.cpu.specs.PlaceLaws.{lowest, all-inside}
+use Rattle.cpu.proofs.Places.{judge-on, judge-out, judge-in}
 use Rattle.cpu.specs.Bytes.{byte_in, split_value, split_stored, got_by, load_of}
 use Rattle.cpu.specs.BytesLaws.{stored-length}
 use Rattle.cpu.specs.declared.place.Pages.{Pages}
@@ -30,25 +32,28 @@ module _ (base len n pa : ℕ) (f : Bool) (t : f ≡ true) (e : f ≡ within bas
       let k = leb-true (pa + n) (base + len) (and_right (leb base pa) (leb (pa + n) (base + len)) (sym e ∙ t)) in
       omega arith
 
--- a byte
-module _ (base : ℕ) (ram : List ℕ) (pa : ℕ) (f : Bool) (e : f ≡ within base (length ram) 1 pa) where
-  pub byte-there : (b : ℕ) → f ≡ true → b ≡ get_or ram (pa - base) 0 → b ≡ byte_in base ram pa
-  unfolding byte_in
-  byte-there b t q = rw (← e, t) q
-
 -- the loop that sums up a split access's bytes, from the highest down
 module _ (base : ℕ) (ram : List ℕ) (p : Pages) (n : ℕ) where
   pub sum-starts : 0 ≡ split_value base ram p n (n - n)
   unfolding split_value
   sum-starts = let z : n - n ≡ zero = omega arith in rw z
 
-  pub sum-on : (i v pa b : ℕ) → 0 < i → i ≤ n → v ≡ split_value base ram p i (n - i) → pa ≡ byte_at p (i - 1) → b ≡ byte_in base ram pa
-      → v * 256 + b ≡ split_value base ram p (i - 1) (n - (i - 1))
-  unfolding split_value
-  sum-on i v pa b h k ev ep eb =
+  pub sum-on : (i v pa b : ℕ) → Lie base (length ram) p n → 0 < i → i ≤ n → v ≡ split_value base ram p i (n - i) → pa ≡ byte_at p (i - 1)
+      → b ≡ get_or ram (pa - base) 0 → v * 256 + b ≡ split_value base ram p (i - 1) (n - (i - 1))
+  unfolding split_value byte_in
+  sum-on i v pa b l h k ev ep eb =
       let s : n - (i - 1) ≡ suc (n - i) = omega arith in
       let q : i - 1 + 1 ≡ i = omega arith in
-      rw (s, q, ← ep, ← eb, ← ev)
+      let here : within base (length ram) 1 (byte_at p (i - 1)) ≡ true = l.each (i - 1) (omega arith) in
+      rw (s, q, here, ← ep, ← eb, ← ev)
+
+-- a byte of them has a place
+pub byte-in : (base len : ℕ) (p : Pages) (n i pa : ℕ) → Lie base len p n → 0 < i → i ≤ n → pa ≡ byte_at p (i - 1) → true ≡ within base len 1 pa
+byte-in base len p n i pa l h k ep = sym (ap (within base len 1) ep ∙ l.each (i - 1) (omega arith))
+
+-- bytes that were judged lie in RAM
+pub lie-judged : (base len : ℕ) (p : Pages) (n : ℕ) (d : Verdict) → d ≡ first_outside base len p 0 n → d ≡ Ok tt → Lie base len p n
+lie-judged base len p n d e q = record { each = λ i k. all-inside base len p 0 n (sym e ∙ q) i (omega arith) (omega arith) }
 
 -- the sum of k bytes is below 256 ^ k
 pub sum-none : (n : ℕ) → 0 < 256 ^ (n - n)
@@ -96,21 +101,44 @@ module _ (base : ℕ) (ram : List ℕ) where
   unfolding load_of verdict_of
   split-value p n v d e q s = rw (← e, q, s)
 
--- the loop that writes a split access's bytes
-module _ (base : ℕ) (p : Pages) (n i v : ℕ) (ram ys : List ℕ) (inv : split_stored base p v i (n - i) ram ≡ ys) where
-  pub put-end : n ≤ i → ram ≡ ys
+-- the loop that judges and writes a split store's bytes: x is the verdict of them all, ys is RAM after it
+module _ (base : ℕ) (p : Pages) (n i v : ℕ) (ram ys : List ℕ) (x : Verdict) (judged : first_outside base (length ram) p i (n - i) ≡ x)
+    (left : split_stored base p v i (bytes_before x n - i) ram ≡ ys) where
+  pub store-end : n ≤ i → (Ok tt ≡ x) × (ram ≡ ys)
   unfolding split_stored
-  put-end h = let z : n - i ≡ zero = omega arith in rw z at inv
+  store-end h =
+      let e : Ok tt ≡ x = judge-in base (length ram) p n i x judged h in
+      let q : bytes_before x n ≡ n = ap (λ (d : Verdict). bytes_before d n) (sym e) in
+      let z : bytes_before x n - i ≡ zero = omega arith in
+      (e, rw z at left)
 
-  pub put_on : (pa : ℕ) (ram' : List ℕ) → i < n → pa ≡ byte_at p i → ram' ≡ stored base ram 1 pa v
-      → split_stored base p (v / 256) (i + 1) (n - (i + 1)) ram' ≡ ys
-  unfolding split_stored
-  put_on pa ram' h ep er =
-      let s : n - i ≡ suc (n - (i + 1)) = omega arith in
-      rw (er, ep) (sym (ap (λ (k : ℕ). split_stored base p v i k ram) s) ∙ inv)
+  module _ (h : i < n) (pa : ℕ) (f : Bool) (zs : List ℕ) (ep : pa ≡ byte_at p i) (ef : f ≡ within base (length ram) 1 pa)
+      (ez : zs ≡ stored base ram 1 pa v) where
+    pub store-out : f ≡ false → (Err (outside_at i pa) ≡ x) × (zs ≡ ys)
+    unfolding split_stored stored
+    store-out t =
+        let e : Err (outside_at i pa) ≡ x = judge-out base (length ram) p n i x judged h pa f ep ef t in
+        let q : bytes_before x n ≡ i = ap (λ (d : Verdict). bytes_before d n) (sym e) in
+        let z : bytes_before x n - i ≡ zero = omega arith in
+        let same : stored base ram 1 pa v ≡ ram = rw (← ef, t) refl in
+        (e, ez ∙ same ∙ (rw z at left))
 
-pub put-length : (base : ℕ) (ram ys : List ℕ) (pa v m : ℕ) → ys ≡ stored base ram 1 pa v → length ram ≡ m → length ys ≡ m
-put-length base ram ys pa v m e q = ap length e ∙ stored-length base ram 1 pa v ∙ q
+    pub store-judged : f ≡ true → first_outside base (length ram) p (i + 1) (n - (i + 1)) ≡ x
+    store-judged t = judge-on base (length ram) p n i x judged h pa f ep ef t
+
+    further : (d : Verdict) → first_outside base (length ram) p (i + 1) (n - (i + 1)) ≡ d → i < bytes_before d n
+    further (Ok y) e = h
+    further (Err out) e = let l : i + 1 ≤ out.index = (lowest base (length ram) p (i + 1) (n - (i + 1)) out.index out.pa e).first in omega arith
+
+    pub store_left : f ≡ true → split_stored base p (v / 256) (i + 1) (bytes_before x n - (i + 1)) zs ≡ ys
+    unfolding split_stored
+    store_left t =
+        let more : i < bytes_before x n = further x (store-judged t) in
+        let s : bytes_before x n - i ≡ suc (bytes_before x n - (i + 1)) = omega arith in
+        rw (ez, ep) (sym (ap (λ (k : ℕ). split_stored base p v i k ram) s) ∙ left)
+
+    pub store-length : length zs ≡ length ram
+    store-length = ap length ez ∙ stored-length base ram 1 pa v
 
 -- stores
 module _ (base : ℕ) (ram : List ℕ) where

@@ -6,14 +6,26 @@ use Rattle.word.specs.Bits.{wrap}
 use Rattle.fault.specs.First.{first}
 use Rattle.fault.specs.declared.Fault.{Fault}
 use Rattle.tlb.specs.Answers.{Answer}
-use Rattle.cpu.specs.Answers.{Placed, Verdict, Got}
+use Rattle.cpu.specs.Answers.{Placed, Verdict, Got, LoadAnswer, StoreAnswer, FetchAnswer}
 use Rattle.exception.specs.declared.kind.Stop.{Stop}
 use Rattle.exception.specs.Abort.{data_abort_at, insn_abort_at}
 use Rattle.cpu.specs.Place.{first_pa, verdict_of}
 use Rattle.cpu.specs.Bytes.{load_of, store_ram, insn_of}
 use Rattle.cpu.specs.declared.place.Place.{Place}
-use Rattle.cpu.specs.declared.ends.LoadEnd.{LoadEnd}
-use Rattle.cpu.specs.declared.{ends.StoreEnd.StoreEnd, ends.FetchEnd.FetchEnd}
+
+-- what an access leaves in the core beside its cache, and its answer
+pub record LoadEnd : Type 0 where
+  pub last_pa : ℕ
+  pub abort_pa : ℕ
+  pub answer : LoadAnswer
+
+pub record StoreEnd : Type 0 where
+  pub abort_pa : ℕ
+  pub answer : StoreAnswer
+
+pub record FetchEnd : Type 0 where
+  pub abort_pa : ℕ
+  pub answer : FetchAnswer
 
 -- the status of an external abort
 abbrev pub external : Fault

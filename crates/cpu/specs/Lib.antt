@@ -5,7 +5,6 @@ pub mod CheckCases
 pub mod CheckRows
 pub mod Place
 pub mod Bytes
-pub mod AtOnce
 pub mod Ends
 pub mod Replies
 -- Laws that the crates above cite.

@@ -1,6 +1,6 @@
 -- Where the bytes of an access lie, and which of them lie outside RAM, by the code's own two parts; `OwnAddress` has it
 -- by each byte's own address.
-use Rattle.std.specs.Prelude.{if◌then◌else◌, ℕ, zero, suc, ◌+◌, ◌-◌, ◌%◌, Bool, false, ◌&&◌, nat_lt, Ok, Err}
+use Rattle.std.specs.Prelude.{if◌then◌else◌, ◌≡◌, ℕ, zero, suc, ◌+◌, ◌-◌, ◌%◌, ◌<◌, Bool, true, false, ◌&&◌, nat_lt, Ok, Err}
 use Rattle.word.specs.Bits.{wrap}
 use Rattle.word.specs.Ram.{within}
 use Rattle.tlb.specs.Answers.{Answer}
@@ -49,6 +49,10 @@ unfoldable pub first_outside : ℕ → ℕ → Pages → ℕ → ℕ → Verdict
 first_outside base len p i zero = Ok tt
 first_outside base len p i (suc n) =
     if within base len 1 (byte_at p i) then first_outside base len p (i + 1) n else Err (outside_at i (byte_at p i))
+
+-- each of its n bytes lies in RAM
+pub record Lie (base len : ℕ) (p : Pages) (n : ℕ) : Type 0 where
+  pub each : (i : ℕ) → i < n → within base len 1 (byte_at p i) ≡ true
 
 -- Any other access is judged whole, and by its first byte where it is outside.
 unfoldable pub verdict_of : ℕ → ℕ → Place → ℕ → Verdict

@@ -7,10 +7,9 @@ use Rattle.exception.specs.declared.{kind.Stop.Stop, kind.Exception.Exception}
 use Rattle.exception.specs.declared.kind.Exception.TheVariants.{Undefined, Svc, Hvc, Smc, Brk, DataAbort, InsnAbort, PcAlignment}
 use Rattle.cpu.specs.Answers.{Placed, LoadAnswer, StoreAnswer, FetchAnswer, fault_at}
 use Rattle.cpu.specs.Place.{in_page, next_page, crosses, placed_both, byte_at}
-use Rattle.cpu.specs.Ends.{load_end, store_end, store_ram_end, fetch_end}
+use Rattle.cpu.specs.Ends.{LoadEnd, StoreEnd, FetchEnd, load_end, store_end, store_ram_end, fetch_end}
 use Rattle.cpu.specs.declared.place.Pages.{Pages}
 use Rattle.cpu.specs.declared.place.Place.TheVariants.{Whole, Split}
-use Rattle.cpu.specs.declared.{ends.LoadEnd.LoadEnd, ends.StoreEnd.StoreEnd, ends.FetchEnd.FetchEnd}
 
 -- WHERE AN ACCESS LIES
 

@@ -1,5 +1,5 @@
 // The checks 1 to 7 of docs/SCOPE.md, each call's from top to bottom.
-ghost use Rattle.std.specs.Prelude.{◌≡◌, not, ◌||◌, [], ◌∷◌, nat_lt, Ok, Some};
+ghost use Rattle.std.specs.Prelude.{if◌then◌else◌, ◌≡◌, not, ◌||◌, [], ◌∷◌, nat_lt, Ok, Some};
 ghost use Rattle.word.specs.Ram.{width_of};
 ghost use Rattle.word.specs.declared.ram.Width.{Width};
 ghost use Rattle.cpu.specs.Check.{passes, overlong, kept, ram_rows, sized_rows, first_of, missed_of};
@@ -11,42 +11,43 @@ use sysreg::encoding;
 use system::decode::Encoding;
 use word::ram::Width;
 
-// The checks, in the order of their numbers, which begin at 1.
+/// What a call may miss; its number is the call's answer.
 #[derive(Clone, Copy)]
 pub enum Check {
-    // a level is at most 3
-    Level,
-    // the window ends at 2^64 or before
+    /// a level is at most 3
+    Level = 1,
+    /// the window ends at 2^64 or before
     Window,
-    // a size is 1, 2, 4 or 8
+    /// a size is 1, 2, 4 or 8
     Size,
-    // op1 and op2 are at most 7, CRn and CRm at most 15
+    /// op1 and op2 are at most 7, CRn and CRm at most 15
     Encoding,
-    // the number of a general register is at most 31
+    /// the number of a general register is at most 31
     General,
-    // a key names a register
+    /// a key names a register
     Key,
-    // a census has at most 65,536 pages, and its range ends at 2^64 or before
+    /// a census has at most 65,536 pages, and its range ends at 2^64 or before
     Pages,
 }
 
 impl Check {
+    /// Its number, 1 to 7.
     pub fn number(self) -> u8
         ensures { result ≡ number_of self }
     {
-        match self {
-            Check::Level => 1,
-            Check::Window => 2,
-            Check::Size => 3,
-            Check::Encoding => 4,
-            Check::General => 5,
-            Check::Key => 6,
-            Check::Pages => 7,
-        }
+        self as u8
+    }
+
+    // An error where it is missed.
+    #[inline(always)]
+    fn unless(self, missed: bool) -> Result<(), Check>
+        ensures { number_missed result ≡ (if missed then number_of self else 0) }
+    {
+        if missed { Err(self) } else { Ok(()) }
     }
 }
 
-// The number of the check that a call misses, or 0.
+/// The number of the check that a call misses, or 0.
 pub fn number_missed<T: Copy>(checked: Result<T, Check>) -> u8
     ensures { result ≡ number_missed checked }
 {
@@ -56,15 +57,11 @@ pub fn number_missed<T: Copy>(checked: Result<T, Check>) -> u8
     }
 }
 
-// Whether a window of len bytes from base passes 2^64. Nearly every one ends at the last address or before it.
+/// Whether a window of len bytes from base passes 2^64. Nearly every one ends at the last address or before it.
 pub fn past_end(base: u64, len: u64) -> bool
     ensures { result ≡ passes base len }
 {
-    if base <= 0xFFFF_FFFF_FFFF_FFFF - len {
-        false
-    } else {
-        0xFFFF_FFFF_FFFF_FFFF - base + 1 < len
-    }
+    u64::MAX - len < base && u64::MAX - base + 1 < len
 }
 
 // Whether a census has more than 65,536 pages, or its range passes 2^64.
@@ -74,40 +71,29 @@ fn is_overlong(first: u64, pages: u64) -> bool
     65536 < pages || 0x10_0000_0000_0000 - first / 4096 < pages
 }
 
-// Each function gives the first check that its calls miss.
-
-// Setting the mark, abort entry.
+/// Setting the mark, abort entry. Each of these functions gives the first check that its calls miss.
 pub fn any(level: u8) -> Result<(), Check>
     ensures { number_missed result ≡ first_of ((nat_lt 3 level, 1) ∷ []) }
 {
-    if 3 < level {
-        return Err(Check::Level);
-    }
-    Ok(())
+    Check::Level.unless(3 < level)
 }
 
-// Setting the level.
+/// Setting the level.
 pub fn levels(level: u8, requested: u64) -> Result<(), Check>
     ensures { number_missed result ≡ first_of ((nat_lt 3 level || nat_lt 3 requested, 1) ∷ []) }
 {
-    if 3 < level || 3 < requested {
-        return Err(Check::Level);
-    }
-    Ok(())
+    Check::Level.unless(3 < level || 3 < requested)
 }
 
-// Translations and fetch: they are handed RAM and no more.
+/// Translations and fetch: they are handed RAM and no more.
 pub fn with_ram(level: u8, base: u64, len: u64) -> Result<(), Check>
     ensures { number_missed result ≡ first_of (ram_rows level base len) }
 {
     any(level)?;
-    if past_end(base, len) {
-        return Err(Check::Window);
-    }
-    Ok(())
+    Check::Window.unless(past_end(base, len))
 }
 
-// Load, store: and the width that the size is.
+/// Load, store: and the width that the size is.
 pub fn sized(level: u8, base: u64, len: u64, size: u64) -> Result<Width, Check>
     ensures number { number_missed result ≡ first_of (sized_rows level base len size) }
     ensures width { (w : Width) → result ≡ Ok w → width_of size ≡ Some w }
@@ -115,56 +101,42 @@ pub fn sized(level: u8, base: u64, len: u64, size: u64) -> Result<Width, Check>
     with_ram(level, base, len).and(Width::of_size(size).ok_or(Check::Size))
 }
 
-// System operation.
+/// System operation.
 #[tactic(auto, unfolding(crate::specs::Check::missed_of))]
 pub fn system(level: u8, base: u64, len: u64, e: Encoding) -> Result<(), Check>
     ensures { number_missed result ≡ missed_of level base len (Call.System e) }
 {
     with_ram(level, base, len)?;
-    if ((7 < e.op1) | (7 < e.op2)) | ((15 < e.crn) | (15 < e.crm)) {
-        return Err(Check::Encoding);
-    }
-    if 31 < e.rt {
-        return Err(Check::General);
-    }
-    Ok(())
+    Check::Encoding.unless(((7 < e.op1) | (7 < e.op2)) | ((15 < e.crn) | (15 < e.crm)))?;
+    Check::General.unless(31 < e.rt)
 }
 
-// Register write.
+/// Register write.
 pub fn register(level: u8, key: u32) -> Result<(), Check>
     ensures { number_missed result ≡ first_of ((nat_lt 3 level, 1) ∷ (not (kept key), 6) ∷ []) }
 {
     any(level)?;
-    if encoding::named(key).is_none() {
-        return Err(Check::Key);
-    }
-    Ok(())
+    Check::Key.unless(encoding::named(key).is_none())
 }
 
-// Setting a general register.
+/// Setting a general register.
 pub fn general(level: u8, number: u64) -> Result<(), Check>
     ensures { number_missed result ≡ first_of ((nat_lt 3 level, 1) ∷ (nat_lt 31 number, 5) ∷ []) }
 {
     any(level)?;
-    if 31 < number {
-        return Err(Check::General);
-    }
-    Ok(())
+    Check::General.unless(31 < number)
 }
 
-// Census.
+/// Census.
 #[tactic(auto, unfolding(crate::specs::Check::missed_of))]
 pub fn census(level: u8, base: u64, len: u64, first: u64, pages: u64) -> Result<(), Check>
     ensures { number_missed result ≡ missed_of level base len (Call.Census first pages) }
 {
     with_ram(level, base, len)?;
-    if is_overlong(first, pages) {
-        return Err(Check::Pages);
-    }
-    Ok(())
+    Check::Pages.unless(is_overlong(first, pages))
 }
 
-// Any call.
+/// Any call.
 #[tactic(auto, unfolding(crate::specs::Check::missed_of))]
 pub fn missed(level: u8, base: u64, len: u64, call: Call) -> Result<(), Check>
     ensures { number_missed result ≡ missed_of level base len call }

@@ -5,7 +5,6 @@ ghost use Rattle.cpu.specs.Inspect.{census_by};
 use crate::call::Reply;
 use crate::{Core, check};
 use census::count;
-use walk::regime::{Bank, Regime};
 
 /// The 129 counts of a census, all 0 where it is refused, and its reply.
 #[derive(Clone, Copy)]
@@ -26,9 +25,15 @@ impl Core {
             let reply = Reply::from(check);
             return Censused { counts, reply };
         }
-        let regime = Regime::of_level(level);
-        let s = Bank::new(&self.control, regime);
-        count::count(s, regime, first, pages, base, ram, &mut counts);
+        count::count(
+            self.bank(),
+            self.regime(),
+            first,
+            pages,
+            base,
+            ram,
+            &mut counts,
+        );
         Censused {
             counts,
             reply: Reply::Done,

@@ -11,7 +11,7 @@ use fault::Fault;
 use sysreg::write::WriteError;
 
 impl Reply {
-    // A translation of va.
+    /// Of a translation of va: a fault is reported at va.
     pub fn translated(va: u64, answer: Result<u64, Fault>) -> Reply
         ensures { result ≡ translation va answer }
     {
@@ -21,7 +21,7 @@ impl Reply {
         }
     }
 
-    // data_pa and fetch_pa.
+    /// Of `data_pa` and `fetch_pa`.
     pub fn reached(answer: Option<u64>) -> Reply
         ensures { result ≡ reaching answer }
     {
@@ -32,7 +32,7 @@ impl Reply {
     }
 }
 
-// A call that misses a check.
+/// Of a call that misses a check.
 impl From<Check> for Reply {
     fn from(check: Check) -> Reply
         ensures { result ≡ Refused (number_of check) }
@@ -41,7 +41,7 @@ impl From<Check> for Reply {
     }
 }
 
-// A load.
+/// Of a load.
 impl From<Result<u64, Stop>> for Reply {
     fn from(answer: Result<u64, Stop>) -> Reply
         ensures { result ≡ loading answer }
@@ -53,7 +53,7 @@ impl From<Result<u64, Stop>> for Reply {
     }
 }
 
-// A store or a system operation.
+/// Of a store or a system operation.
 impl From<Result<(), Stop>> for Reply {
     fn from(answer: Result<(), Stop>) -> Reply
         ensures { result ≡ storing answer }
@@ -65,7 +65,7 @@ impl From<Result<(), Stop>> for Reply {
     }
 }
 
-// A fetch.
+/// Of a fetch.
 impl From<Result<u32, Exception>> for Reply {
     fn from(answer: Result<u32, Exception>) -> Reply
         ensures { result ≡ fetching answer }
@@ -77,7 +77,7 @@ impl From<Result<u32, Exception>> for Reply {
     }
 }
 
-// A register write.
+/// Of a register write: a key that names no register is check 6.
 impl From<Result<(), WriteError>> for Reply {
     fn from(answer: Result<(), WriteError>) -> Reply
         ensures { result ≡ registering answer }

@@ -17,12 +17,12 @@ use Rattle.cpu.specs.declared.Core.{Core}
 use Rattle.cpu.specs.Answers.{Verdict}
 use Rattle.cpu.specs.Place.{in_page, next_page, crosses, goes_on, placed_both}
 use Rattle.cpu.specs.Bytes.{store_ram}
-use Rattle.cpu.specs.AtOnce.{both_inside, both_stored, pair_at}
+use Rattle.quick.specs.AtOnce.{both_inside, both_stored, pair_at}
 use Rattle.cpu.specs.Ends.{data_abort, external, store_end, store_end_by, store_ram_end}
 use Rattle.cpu.specs.declared.place.Pages.{Pages}
 use Rattle.cpu.specs.declared.place.Place.TheVariants.{Split}
 use Rattle.cpu.proofs.Moves.{whole-inside, whole-outside}
-use Rattle.cpu.proofs.Both.{both-judged, both-stores}
+use Rattle.quick.proofs.Both.{both-judged, both-stores}
 use Rattle.word.specs.declared.ram.Width.{Width}
 use Rattle.word.specs.declared.ram.Width.TheVariants.{Half}
 use Rattle.cpu.specs.Step.{Stepped, after_store}

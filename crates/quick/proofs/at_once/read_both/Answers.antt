@@ -1,6 +1,6 @@
 use Rattle.std.proofs.Common.{rules}
-use Rattle.cpu.proofs.Both.{few, lies}
-use Rattle.cpu.proofs.bytes.read_both.Goals as goal
+use Rattle.quick.proofs.Both.{few, lies}
+use Rattle.quick.proofs.at_once.read_both.Goals as goal
 
 pub joined-requires-clause-n_bound : goal.joined-requires-clause-n_bound
 joined-requires-clause-n_bound c = search (few, rules)

@@ -1,9 +1,8 @@
 -- The code's own test of a split access: whether both of its parts lie in RAM, decided at once. Nothing here has to be
 -- believed: where it says yes, the value and RAM are those of the bytes, and where it says no, the bytes are judged one
 -- by one.
-use Rattle.std.specs.Prelude.{if◌then◌else◌, ◌≡◌, ℕ, ◌-◌, ◌^◌, ◌<◌, Bool, true, false, ◌&&◌, List, length, nat_lt, Option, Some, None}
+use Rattle.std.specs.Prelude.{if◌then◌else◌, ℕ, ◌-◌, ◌^◌, Bool, false, ◌&&◌, List, length, nat_lt, Option, Some, None}
 use Rattle.word.specs.Ram.{within}
-use Rattle.cpu.specs.Place.{byte_at}
 use Rattle.cpu.specs.Bytes.{split_value, split_stored}
 use Rattle.cpu.specs.declared.place.Pages.{Pages}
 
@@ -14,10 +13,6 @@ both_inside base len p n =
     else if nat_lt n p.in_page then false
     else if nat_lt 8 n then false
     else within base len p.in_page p.pa && within base len (n - p.in_page) p.pa2
-
--- so each of the n bytes lies in RAM
-pub record Lie (base len : ℕ) (p : Pages) (n : ℕ) : Type 0 where
-  pub each : (i : ℕ) → i < n → within base len 1 (byte_at p i) ≡ true
 
 -- the value, and RAM after a store
 unfoldable pub both_at : ℕ → List ℕ → Pages → ℕ → Option ℕ

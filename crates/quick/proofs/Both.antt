@@ -8,10 +8,11 @@ use Rattle.word.proofs.RamLaws.{digit-next, written_next}
 use Rattle.cpu.specs.Place.{byte_at, first_outside, verdict_of}
 use Rattle.cpu.specs.Bytes.{split_value, split_stored, load_of, store_ram}
 use Rattle.cpu.specs.BytesLaws.{stored-length}
-use Rattle.cpu.specs.AtOnce.{both_inside, Lie, both_at, both_stored, pair_at}
+use Rattle.cpu.specs.Place.{Lie}
+use Rattle.quick.specs.AtOnce.{both_inside, both_at, both_stored, pair_at}
 use Rattle.cpu.specs.declared.place.Pages.{Pages}
 use Rattle.cpu.specs.declared.place.Place.TheVariants.{Split}
-use Rattle.cpu.proofs.Moves.{fits-base, fits-end, byte-there, sum-on, split-value}
+use Rattle.cpu.proofs.Moves.{fits-base, fits-end, split-value}
 
 -- n bytes from pa lie in RAM, so each of them does
 one-within : (base len n pa i : ℕ) → base + len < 2 ^ 64 → within base len n pa ≡ true → i < n → within base len 1 (wrap (pa + i)) ≡ true
@@ -69,16 +70,6 @@ module _ (base len : ℕ) (p : Pages) (n : ℕ) where
       byte i k s w false eb =
           let q : p.in_page ≤ i = ltb-false _ _ eb in
           rw eb (one-within base len (n - p.in_page) p.pa2 (i - p.in_page) s w.1 (omega arith))
-
--- so the byte that is next in a loop has a place
-module _ (base len : ℕ) (p : Pages) (n i pa : ℕ) (l : Lie base len p n) (h : i < n) (ep : pa ≡ byte_at p i) where
-  next-within : true ≡ within base len 1 pa
-  next-within = sym (ap (within base len 1) ep ∙ l.each i h)
-
-pub joined-on : (base : ℕ) (ram : List ℕ) (p : Pages) (n i v pa b : ℕ) → Lie base (length ram) p n → 0 < i → i ≤ n → v ≡ split_value base ram p i (n - i)
-    → pa ≡ byte_at p (i - 1) → b ≡ get_or ram (pa - base) 0 → v * 256 + b ≡ split_value base ram p (i - 1) (n - (i - 1))
-joined-on base ram p n i v pa b l h k ev ep eb =
-    sum-on base ram p n i v pa b h k ev ep (byte-there base ram pa true (next-within base (length ram) p n (i - 1) pa l (omega arith) ep) b refl eb)
 
 -- THE TWO PARTS OF A STORE
 

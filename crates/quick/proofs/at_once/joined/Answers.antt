@@ -1,7 +1,6 @@
 use Rattle.std.proofs.Common.{rules}
-use Rattle.cpu.proofs.Both.{joined-on}
-use Rattle.cpu.proofs.Moves.{sum-starts, sum-none, sum-mul, sum-add, sum-next}
-use Rattle.cpu.proofs.bytes.joined.Goals as goal
+use Rattle.cpu.proofs.Moves.{sum-starts, sum-none, sum-mul, sum-add, sum-on, sum-next}
+use Rattle.quick.proofs.at_once.joined.Goals as goal
 
 pub loop-i-init : goal.loop-i-init
 loop-i-init c = search (sum-starts, sum-none, rules)
@@ -13,4 +12,4 @@ pub overflow_add-v : goal.overflow_add-v
 overflow_add-v c = search (sum-add, rules)
 
 pub loop-i-preserved : goal.loop-i-preserved
-loop-i-preserved c = search (joined-on, sum-next, rules)
+loop-i-preserved c = search (sum-on, sum-next, rules)

@@ -1,6 +1,6 @@
 use Rattle.std.proofs.Common.{rules}
-use Rattle.cpu.proofs.Both.{part-shift, some, made, unmade, both-wrote, both-unwritten}
-use Rattle.cpu.proofs.bytes.write_both.Goals as goal
+use Rattle.quick.proofs.Both.{part-shift, some, made, unmade, both-wrote, both-unwritten}
+use Rattle.quick.proofs.at_once.write_both.Goals as goal
 
 pub overflow_mul-rest : goal.overflow_mul-rest
 overflow_mul-rest c = search (part-shift, rules)

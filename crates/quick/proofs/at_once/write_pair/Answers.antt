@@ -1,6 +1,6 @@
 use Rattle.std.proofs.Common.{rules}
-use Rattle.cpu.proofs.Both.{made, unmade, pair-wrote, both-unwritten}
-use Rattle.cpu.proofs.bytes.write_pair.Goals as goal
+use Rattle.quick.proofs.Both.{made, unmade, pair-wrote, both-unwritten}
+use Rattle.quick.proofs.at_once.write_pair.Goals as goal
 
 pub returns-then-both_inside : goal.returns-then-both_inside
 returns-then-both_inside c = search (made, pair-wrote, rules)
