@@ -4,7 +4,7 @@ use Rattle.fault.specs.First.{first}
 use Rattle.tlb.specs.declared.access.Kind.TheVariants.{Read, Write, Fetch}
 use Rattle.exception.specs.Abort.{data_abort_at, insn_abort_at}
 use Rattle.exception.specs.declared.{kind.Exception.Exception, kind.Stop.Stop}
-use Rattle.operations.specs.declared.{call.Call.Call, call.Reply.Reply}
+use Rattle.cpu.specs.declared.{call.Call.Call, call.Reply.Reply}
 use Rattle.call_words.specs.declared.{op.DecodedCall.DecodedCall, op.DecodedException.DecodedException}
 use Rattle.walk.specs.declared.level.Leaf.{Leaf}
 use Rattle.walk.specs.declared.regime.Regime.TheVariants.{El1, El2, El3}

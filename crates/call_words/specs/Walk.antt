@@ -5,7 +5,7 @@ use Rattle.word.specs.Ram.{word_at}
 use Rattle.walk.specs.Walk.{walk_of}
 use Rattle.walk.specs.declared.{regime.Regime.Regime, regime.NoSuchRegime.NoSuchRegime, regime.Bank.Bank, level.Leaf.Leaf}
 use Rattle.walk.specs.Regime.{regime_at}
-use Rattle.operations.specs.Check.{passes}
+use Rattle.cpu.specs.Check.{passes}
 use Rattle.walk.specs.Answers.{Walked}
 
 -- SCTLR, TCR and TTBR0 of the regime, TTBR1_EL1, SCR_EL3, HCR_EL2

@@ -4,8 +4,8 @@ ghost use Rattle.call_words.specs.declared.op.DecodedException.TheVariants as De
 ghost use Rattle.call_words.specs.Ops.{kind_of, in_range, data_abort_of, insn_abort_of, exception_of, exception_at};
 ghost use Rattle.call_words.specs.Ops.{key_of, translate_call, abort_call, mark_call, call_of};
 
+use cpu::call::Call;
 use exception::kind::{DataAbort, Exception, InsnAbort};
-use operations::call::Call;
 use system::decode::Encoding;
 use tlb::access::Kind;
 

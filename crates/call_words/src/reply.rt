@@ -2,10 +2,10 @@
 ghost use Rattle.std.specs.Prelude.{◌≡◌};
 ghost use Rattle.call_words.specs.Replies.{exception_code, stop_code, code_by, exception_value, stop_value, value_by};
 ghost use Rattle.call_words.specs.Replies.{exception_words, stop_words, words_by};
-ghost use Rattle.operations.specs.Replies.{storing};
+ghost use Rattle.cpu.specs.Replies.{storing};
 
+use cpu::call::Reply;
 use exception::kind::{Exception, Stop};
-use operations::call::Reply;
 use word::bits;
 
 // The number of an exception that stops an operation, and the address of a data abort.

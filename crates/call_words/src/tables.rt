@@ -2,7 +2,7 @@
 ghost use Rattle.std.specs.Prelude.{◌≡◌, ◌+◌};
 ghost use Rattle.call_words.specs.Walk.{bank_at, leaf_after, walk_code, walk_words};
 
-use operations::check;
+use cpu::check;
 use walk::level::Leaf;
 use walk::regime::{Bank, Regime};
 use word::bits;

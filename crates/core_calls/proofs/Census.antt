@@ -6,9 +6,9 @@ use Rattle.word.specs.Ram.{word_at}
 use Rattle.walk.specs.Regime.{bank_of, regime_of}
 use Rattle.walk.specs.declared.{regime.Regime.Regime, regime.Bank.Bank}
 use Rattle.census.specs.Count.{census_of}
-use Rattle.operations.specs.Check.{missed_of}
-use Rattle.operations.specs.declared.call.Call.TheVariants.{Census}
-use Rattle.operations.specs.declared.call.Reply.TheVariants.{Refused}
+use Rattle.cpu.specs.Check.{missed_of}
+use Rattle.cpu.specs.declared.call.Call.TheVariants.{Census}
+use Rattle.cpu.specs.declared.call.Reply.TheVariants.{Refused}
 use Rattle.cpu.specs.declared.Core.{Core}
 use Rattle.cpu.specs.Step.{ends, refused_or, missed_by, run_of, step_of}
 use Rattle.cpu.specs.Inspect.{counts_of, counts_after}

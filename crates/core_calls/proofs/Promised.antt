@@ -2,7 +2,7 @@
 use Rattle.std.specs.Prelude.{◌≡◌, List, ℕ, true}
 use Rattle.std.proofs.Common.{refl, ap, ◌∙◌, arith}
 use Rattle.cpu.specs.declared.Core.{Core}
-use Rattle.operations.specs.declared.{call.Call.Call, call.Reply.Reply}
+use Rattle.cpu.specs.declared.{call.Call.Call, call.Reply.Reply}
 use Rattle.cpu.specs.Step.{Stepped, step_of, ram_after}
 use Rattle.cpu.specs.EveryCallEnds.{outcome_of}
 use Rattle.transparency.specs.Faithful.{FaithfulCall}

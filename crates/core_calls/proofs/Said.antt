@@ -2,7 +2,7 @@
 use Rattle.std.specs.Prelude.{if◌then◌else◌, ◌≡◌, eqb, List, ℕ, Bool, true, false, Result, Ok, Err}
 use Rattle.std.proofs.Common.{refl, sym}
 use Rattle.cpu.specs.declared.Core.{Core}
-use Rattle.operations.specs.declared.call.Call.{Call}
+use Rattle.cpu.specs.declared.call.Call.{Call}
 use Rattle.cpu.specs.Step.{step_of, ram_after}
 use Rattle.cpu.specs.EveryCallEnds.{writes, quiet}
 use Rattle.call_words.specs.Ops.{translate_call, mark_call}

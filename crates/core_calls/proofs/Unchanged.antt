@@ -4,8 +4,8 @@ use Rattle.std.proofs.Common.{refl, ap, arith}
 use Rattle.exception.specs.declared.{kind.Exception.Exception, kind.Stop.Stop}
 use Rattle.cpu.specs.Says.{Said, value, lies, done, fault, faults, undefined, unimplemented, call, misaligned}
 use Rattle.cpu.specs.declared.Core.{Core}
-use Rattle.operations.specs.declared.{call.Call.Call, call.Reply.Reply}
-use Rattle.operations.specs.declared.call.Reply.TheVariants.{Refused, Done, Value, Faults, Fault, Stopped}
+use Rattle.cpu.specs.declared.{call.Call.Call, call.Reply.Reply}
+use Rattle.cpu.specs.declared.call.Reply.TheVariants.{Refused, Done, Value, Faults, Fault, Stopped}
 use Rattle.cpu.specs.Step.{step_of, ram_after}
 use Rattle.cpu.specs.EveryCallEnds.{Outcome, number, says, outcome_of, Wrote, did, faulted}
 use Rattle.cpu.specs.EveryCallEnds.{Ran, is-undefined, is-unimplemented, valued, unreached, stopped, wrote-ram, Ended, is-refused, has-run}

@@ -1,12 +1,11 @@
 // What looks at tables and changes neither core nor RAM.
 ghost use Rattle.std.specs.Prelude.{◌≡◌};
-ghost use Rattle.operations.specs.Check.{missed_of};
-ghost use Rattle.operations.specs.declared.call.Call.TheVariants as Call;
+ghost use Rattle.cpu.specs.Check.{missed_of};
+ghost use Rattle.cpu.specs.declared.call.Call.TheVariants as Call;
 ghost use Rattle.core_calls.specs.Promise.{CensusPromise};
 
 use census::count;
-use cpu::Core;
-use operations::check;
+use cpu::{Core, check};
 use walk::regime::{Bank, Regime};
 
 // The number of the first check that a census misses, or 0.

@@ -1,7 +1,7 @@
 // Translations, loads, stores and fetches. Each gives a number, and in `ans` the address or value, or the address
 // of a data abort.
 ghost use Rattle.std.specs.Prelude.{◌≡◌};
-ghost use Rattle.operations.specs.declared.call.Call.TheVariants as Call;
+ghost use Rattle.cpu.specs.declared.call.Call.TheVariants as Call;
 ghost use Rattle.call_words.specs.declared.op.DecodedCall.TheVariants as DecodedCall;
 ghost use Rattle.call_words.specs.Ops.{kind_of, translate_call};
 ghost use Rattle.core_calls.specs.Promise.{Promise};

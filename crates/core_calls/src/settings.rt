@@ -1,5 +1,5 @@
 // What sets a register, the level, the mark or a general register, and abort entry: no RAM, and no word of answer.
-ghost use Rattle.operations.specs.declared.call.Call.TheVariants as Call;
+ghost use Rattle.cpu.specs.declared.call.Call.TheVariants as Call;
 ghost use Rattle.call_words.specs.declared.op.DecodedCall.TheVariants as DecodedCall;
 ghost use Rattle.call_words.specs.Ops.{key_of, exception_at, abort_call, mark_call};
 ghost use Rattle.core_calls.specs.Promise.{Setting};

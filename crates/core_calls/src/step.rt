@@ -1,5 +1,5 @@
 // System operations, and every call by its words.
-ghost use Rattle.operations.specs.declared.call.Call.TheVariants as Call;
+ghost use Rattle.cpu.specs.declared.call.Call.TheVariants as Call;
 ghost use Rattle.call_words.specs.declared.op.DecodedCall.TheVariants as DecodedCall;
 ghost use Rattle.call_words.specs.Ops.{encoding_of, call_of};
 ghost use Rattle.core_calls.specs.Promise.{Promise, StepPromise};

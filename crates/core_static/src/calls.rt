@@ -1,6 +1,6 @@
 // The calls.
 ghost use Rattle.std.specs.Prelude.{◌≡◌};
-ghost use Rattle.operations.specs.declared.call.Call.TheVariants as Call;
+ghost use Rattle.cpu.specs.declared.call.Call.TheVariants as Call;
 ghost use Rattle.call_words.specs.declared.op.DecodedCall.TheVariants as DecodedCall;
 ghost use Rattle.call_words.specs.Ops.{key_of, kind_of, encoding_of, exception_at};
 ghost use Rattle.call_words.specs.Ops.{abort_call, mark_call, call_of, translate_call};

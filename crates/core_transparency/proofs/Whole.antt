@@ -13,7 +13,7 @@ use Rattle.exception.specs.Entry.{same_el, at_target, updated, entered_sys, ente
 use Rattle.system.specs.declared.decode.SysOp.{SysOp}
 use Rattle.cpu.specs.Bare.{Bare, bare_of}
 use Rattle.cpu.specs.declared.Core.{Core}
-use Rattle.operations.specs.declared.call.Call.{Call}
+use Rattle.cpu.specs.declared.call.Call.{Call}
 use Rattle.cpu.specs.Step.{step_of}
 use Rattle.history.specs.Instance.{Ram, window_of}
 use Rattle.transparency.specs.Bare.{Ruling, allowed, number, undefined, unimplemented, ruling_in}

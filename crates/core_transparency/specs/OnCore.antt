@@ -6,8 +6,8 @@ use Rattle.cpu.specs.Core.{fresh_core}
 use Rattle.cpu.specs.declared.Core.{Core}
 use Rattle.cpu.specs.Step.{step_of}
 use Rattle.cpu.specs.Inspect.{census-core}
-use Rattle.operations.specs.declared.call.Call.{Call}
-use Rattle.operations.specs.declared.call.Call.TheVariants.{Census}
+use Rattle.cpu.specs.declared.call.Call.{Call}
+use Rattle.cpu.specs.declared.call.Call.TheVariants.{Census}
 use Rattle.history.specs.Calls.{Lent, run}
 use Rattle.history.specs.Instance.{window_of, real}
 use Rattle.transparency.specs.Machine.{machine}

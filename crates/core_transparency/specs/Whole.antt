@@ -2,7 +2,7 @@
 use Rattle.std.specs.Prelude.{◌≡◌, List, ℕ}
 use Rattle.cpu.specs.declared.Core.{Core}
 use Rattle.cpu.specs.Step.{step_of}
-use Rattle.operations.specs.declared.call.Call.{Call}
+use Rattle.cpu.specs.declared.call.Call.{Call}
 use Rattle.history.specs.Calls.{Lent}
 use Rattle.history.specs.Instance.{real}
 use Rattle.transparency.specs.Machine.{machine}

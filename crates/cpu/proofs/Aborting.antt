@@ -6,14 +6,14 @@ use Rattle.word.specs.Ram.{within, word_at}
 use Rattle.tlb.specs.declared.access.Kind.{Kind}
 use Rattle.tlb.specs.declared.access.Kind.TheVariants.{Read, Write}
 use Rattle.tlb.specs.Answers.{Answer}
-use Rattle.operations.specs.Answers.{Placed, Verdict, fault_at, outside_at}
-use Rattle.operations.specs.Place.{next_page, in_page, crosses, goes_on, first_pa, verdict_of}
-use Rattle.operations.specs.PlaceLaws.{same-outside, lowest}
-use Rattle.operations.specs.Bytes.{value_at, load_of, insn_of, got_by}
-use Rattle.operations.specs.BytesLaws.{address_in}
-use Rattle.operations.specs.Ends.{loaded_from, load_end, store_end, fetch_end}
-use Rattle.operations.specs.declared.place.Place.{Place}
-use Rattle.operations.specs.declared.place.Place.TheVariants.{Whole, Split}
+use Rattle.cpu.specs.Answers.{Placed, Verdict, fault_at, outside_at}
+use Rattle.cpu.specs.Place.{next_page, in_page, crosses, goes_on, first_pa, verdict_of}
+use Rattle.cpu.specs.PlaceLaws.{same-outside, lowest}
+use Rattle.cpu.specs.Bytes.{value_at, load_of, insn_of, got_by}
+use Rattle.cpu.specs.BytesLaws.{address_in}
+use Rattle.cpu.specs.Ends.{loaded_from, load_end, store_end, fetch_end}
+use Rattle.cpu.specs.declared.place.Place.{Place}
+use Rattle.cpu.specs.declared.place.Place.TheVariants.{Whole, Split}
 use Rattle.cpu.specs.Results.{Stepped}
 use Rattle.cpu.specs.Core.{after_access, bank_now}
 use Rattle.cpu.specs.Translations.{translate_in, located_of, one_page, both_pages}

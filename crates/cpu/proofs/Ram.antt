@@ -1,9 +1,9 @@
 -- A store keeps RAM's length.
 use Rattle.std.specs.Prelude.{◌≡◌, ℕ, List, length, Ok, Err}
 use mathlib.Core.Path.{ap, ◌∙◌}
-use Rattle.operations.specs.BytesLaws.{store_length}
-use Rattle.operations.specs.Ends.{store_ram_end}
-use Rattle.operations.specs.Answers.{Placed}
+use Rattle.cpu.specs.BytesLaws.{store_length}
+use Rattle.cpu.specs.Ends.{store_ram_end}
+use Rattle.cpu.specs.Answers.{Placed}
 
 pub len : (base : ℕ) (ram : List ℕ) (n v : ℕ) (ys : List ℕ) (x : Placed) → ys ≡ store_ram_end x base ram n v
     → length ys ≡ length ram

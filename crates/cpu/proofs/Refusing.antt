@@ -1,8 +1,8 @@
 -- A call that misses a check is refused by that number, and nothing changes; every call ends.
 use Rattle.std.specs.Prelude.{◌≡◌, ℕ, zero, suc, ◌≤◌, List, refl}
 use Rattle.cpu.specs.declared.Core.{Core}
-use Rattle.operations.specs.declared.call.Call.{Call}
-use Rattle.operations.specs.declared.call.Reply.TheVariants.{Refused}
+use Rattle.cpu.specs.declared.call.Call.{Call}
+use Rattle.cpu.specs.declared.call.Reply.TheVariants.{Refused}
 use Rattle.cpu.specs.EveryCallEnds.{outcome_of, Ran, ran, Ended, is-refused, has-run, number-le}
 use Rattle.cpu.specs.Step.{ends, refused_or, missed_by, run_of, ram_of, step_of, ram_after}
 

@@ -14,11 +14,11 @@ use Rattle.cpu.specs.OpLaws.{store-last}
 use Rattle.cpu.specs.declared.Core.{Core}
 use Rattle.cpu.specs.Registers.{registered, written, applied_of, with_regs, after_register_write, set_level, set_mark, abort_of}
 use Rattle.cpu.specs.System.{with_par, at_of, tlbi_core, on_stored, zero_of, sys_by, op_of, sys_of}
-use Rattle.operations.specs.Answers.{StoreAnswer}
-use Rattle.operations.specs.declared.call.Call.{Call}
-use Rattle.operations.specs.declared.call.Call.TheVariants.{Translate, DataPa, FetchPa, Load as LoadCall, Store as StoreCall, Fetch, System, Register, Level}
-use Rattle.operations.specs.declared.call.Call.TheVariants.{Mark, General, Abort, Census}
-use Rattle.operations.specs.declared.call.Reply.TheVariants.{Refused}
+use Rattle.cpu.specs.Answers.{StoreAnswer}
+use Rattle.cpu.specs.declared.call.Call.{Call}
+use Rattle.cpu.specs.declared.call.Call.TheVariants.{Translate, DataPa, FetchPa, Load as LoadCall, Store as StoreCall, Fetch, System, Register, Level}
+use Rattle.cpu.specs.declared.call.Call.TheVariants.{Mark, General, Abort, Census}
+use Rattle.cpu.specs.declared.call.Reply.TheVariants.{Refused}
 use Rattle.cpu.specs.EveryCallEnds.{zeroes}
 use Rattle.cpu.specs.Setters.{loads, goes_to_memory, OnlyLoadCallsSetLast, OtherCallsKeepAbort}
 use Rattle.cpu.specs.Step.{ends, store_by, refused_or, missed_by, run_of, step_of}

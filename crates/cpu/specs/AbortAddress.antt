@@ -5,9 +5,9 @@ use Rattle.word.specs.Bits.{wrap}
 use Rattle.word.specs.Ram.{within, word_at}
 use Rattle.tlb.specs.declared.access.Kind.{Kind}
 use Rattle.tlb.specs.declared.access.Kind.TheVariants.{Read, Write}
-use Rattle.operations.specs.Answers.{outside_at}
-use Rattle.operations.specs.Place.{verdict_of}
-use Rattle.operations.specs.declared.place.Place.{Place}
+use Rattle.cpu.specs.Answers.{outside_at}
+use Rattle.cpu.specs.Place.{verdict_of}
+use Rattle.cpu.specs.declared.place.Place.{Place}
 use Rattle.cpu.specs.Memory.{located_now, fetch_stepped_now, translate_of, read_of, write_of, fetch_of}
 use Rattle.cpu.specs.OwnAddress.{own_answer, Ready}
 use Rattle.cpu.specs.declared.Core.{Core}

@@ -11,8 +11,8 @@ use Rattle.tlb.specs.Translate.{access_of}
 use Rattle.tlb.specs.Asks.{Ask, translates, Given, onward, answers, tlb_asks}
 use Rattle.tlb.specs.declared.{access.Kind.Kind, access.Privilege.Privilege, Tlb.Tlb}
 use Rattle.tlb.specs.Answers.{Answer}
-use Rattle.operations.specs.Answers.{Placed, fault_at}
-use Rattle.operations.specs.Place.{next_page, crosses, goes_on, placed_one, placed_both}
+use Rattle.cpu.specs.Answers.{Placed, fault_at}
+use Rattle.cpu.specs.Place.{next_page, crosses, goes_on, placed_one, placed_both}
 use Rattle.cpu.specs.Translations.{one_page, both_pages, translate_in, located_of}
 
 -- An access of n bytes: its own address, and where it crosses a page with stage 1 on the next page's first. The second

@@ -11,17 +11,17 @@ use Rattle.word.specs.Ram.{within, word_at, written, stored}
 use Rattle.word.proofs.RamLaws.{within_low, within-high, digit-next, byte_of, written_byte}
 use Rattle.tlb.specs.declared.access.Kind.{Kind}
 use Rattle.tlb.specs.declared.access.Kind.TheVariants.{Read, Write}
-use Rattle.operations.specs.Answers.{Placed, Verdict, LoadAnswer, outside_at}
-use Rattle.operations.specs.Place.{byte_at, verdict_of, bytes_before}
-use Rattle.operations.specs.PlaceLaws.{all-inside}
-use Rattle.operations.specs.Bytes.{byte_in, split_value, split_stored, value_at, load_of, store_ram}
-use Rattle.operations.specs.BytesLaws.{address_in, stored-length, split-length, split-leaves}
-use Rattle.operations.specs.Ends.{load_end, store_end, store_ram_end}
+use Rattle.cpu.specs.Answers.{Placed, Verdict, LoadAnswer, outside_at}
+use Rattle.cpu.specs.Place.{byte_at, verdict_of, bytes_before}
+use Rattle.cpu.specs.PlaceLaws.{all-inside}
+use Rattle.cpu.specs.Bytes.{byte_in, split_value, split_stored, value_at, load_of, store_ram}
+use Rattle.cpu.specs.BytesLaws.{address_in, stored-length, split-length, split-leaves}
+use Rattle.cpu.specs.Ends.{load_end, store_end, store_ram_end}
 use Rattle.cpu.specs.Memory.{located_now, read_of, write_of, ram_after_write}
 use Rattle.cpu.specs.OpLaws.{write-leaves}
 use Rattle.cpu.specs.declared.Core.{Core}
-use Rattle.operations.specs.declared.{place.Pages.Pages, place.Place.Place}
-use Rattle.operations.specs.declared.place.Place.TheVariants.{Whole, Split}
+use Rattle.cpu.specs.declared.{place.Pages.Pages, place.Place.Place}
+use Rattle.cpu.specs.declared.place.Place.TheVariants.{Whole, Split}
 use Rattle.cpu.specs.OwnAddress.{own_answer, Ready, Own, lies-own}
 
 -- EACH BYTE OF A VALUE

@@ -32,11 +32,11 @@ use Rattle.walk.specs.Fresh.{fresh_of}
 use Rattle.system.specs.Par.{success, abort, leaf_par, par_in, at_par}
 use Rattle.cpu.specs.Registers.{abort_of}
 use Rattle.cpu.specs.System.{with_par, at_of, sys_of}
-use Rattle.operations.specs.Check.{missed_of}
+use Rattle.cpu.specs.Check.{missed_of}
 use Rattle.cpu.specs.Step.{run_of, step_of}
-use Rattle.operations.specs.declared.{call.Call.Call, call.Reply.Reply}
-use Rattle.operations.specs.declared.call.Call.TheVariants.{Translate, System, Abort}
-use Rattle.operations.specs.declared.call.Reply.TheVariants.{Value, Fault}
+use Rattle.cpu.specs.declared.{call.Call.Call, call.Reply.Reply}
+use Rattle.cpu.specs.declared.call.Call.TheVariants.{Translate, System, Abort}
+use Rattle.cpu.specs.declared.call.Reply.TheVariants.{Value, Fault}
 use Rattle.cpu.specs.Step.{Stepped}
 
 -- a core at a level with SCTLR_EL1.M set, TCR_EL1 = 25 and TTBR0_EL1 as given, other registers zero, the address in X0, and an empty cache

@@ -13,26 +13,26 @@ use Rattle.sysreg.specs.declared.{regs.Control.Control, regs.SysRegs.SysRegs}
 use Rattle.sysreg.specs.declared.regs.Register.{Register}
 use Rattle.sysreg.specs.declared.regs.Register.TheVariants.{InControl, InSys}
 use Rattle.tlb.specs.Answers.{Answer}
-use Rattle.operations.specs.Answers.{Placed, Verdict, LoadAnswer, StoreAnswer, FetchAnswer}
+use Rattle.cpu.specs.Answers.{Placed, Verdict, LoadAnswer, StoreAnswer, FetchAnswer}
 use Rattle.tlb.specs.declared.access.Kind.TheVariants as Kind
 use Rattle.system.specs.declared.decode.SysOp.{SysOp}
 use Rattle.cpu.specs.Core.{reg_of}
-use Rattle.operations.specs.Place.{verdict_of as judged}
-use Rattle.operations.specs.Bytes.{value_at}
+use Rattle.cpu.specs.Place.{verdict_of as judged}
+use Rattle.cpu.specs.Bytes.{value_at}
 use Rattle.cpu.specs.Says.{Said, value, done, fault, faults, undefined, unimplemented, stop_says, load_says, store_says, fetch_says, memory_says, access_says}
 use Rattle.cpu.specs.Says.{insn_says, load-says, store-says, fetch-says}
 use Rattle.cpu.specs.Memory.{translate_of, read_of, write_of, ram_after_write, fetch_of, fetch_pa_of, data_pa_of, located_now, fetch_stepped_now}
 use Rattle.cpu.specs.OpLaws.{ram-length, store}
 use Rattle.cpu.specs.declared.Core.{Core}
-use Rattle.operations.specs.declared.{call.Call.Call, call.Reply.Reply}
+use Rattle.cpu.specs.declared.{call.Call.Call, call.Reply.Reply}
 use Rattle.cpu.specs.Registers.{registered, written, after_register_write}
 use Rattle.cpu.specs.System.{on_stored, zero_of, zero_ram, sys_by, sys_ram_by, op_of, sys_of, sys_ram}
-use Rattle.operations.specs.Check.{Row, checks_of, first_of, missed_of, is_width, known, kept}
-use Rattle.operations.specs.Replies.{translation, loading, storing, fetching, reaching, registering}
+use Rattle.cpu.specs.Check.{Row, checks_of, first_of, missed_of, is_width, known, kept}
+use Rattle.cpu.specs.Replies.{translation, loading, storing, fetching, reaching, registering}
 use Rattle.cpu.specs.Step.{load_by, store_by, store_ram_by, refused_or, missed_by, run_of, ram_of, ram_after}
-use Rattle.operations.specs.declared.call.Call.TheVariants.{Translate, DataPa, FetchPa, Load as LoadCall, Store as StoreCall, Fetch, System}
-use Rattle.operations.specs.declared.call.Call.TheVariants.{Register as RegisterCall, Level, Mark, General, Abort, Census}
-use Rattle.operations.specs.declared.call.Reply.TheVariants.{Refused, Done, Value, Faults, Fault, Stopped}
+use Rattle.cpu.specs.declared.call.Call.TheVariants.{Translate, DataPa, FetchPa, Load as LoadCall, Store as StoreCall, Fetch, System}
+use Rattle.cpu.specs.declared.call.Call.TheVariants.{Register as RegisterCall, Level, Mark, General, Abort, Census}
+use Rattle.cpu.specs.declared.call.Reply.TheVariants.{Refused, Done, Value, Faults, Fault, Stopped}
 use Rattle.word.specs.declared.ram.Width.{Width}
 use Rattle.sysreg.specs.declared.write.WriteError.TheVariants.{Undefined, NoRegister}
 

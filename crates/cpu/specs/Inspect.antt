@@ -4,8 +4,8 @@ use Rattle.std.proofs.Math.Path.{refl}
 use Rattle.word.specs.Ram.{word_at}
 use Rattle.census.specs.Count.{census_at}
 use Rattle.cpu.specs.declared.Core.{Core}
-use Rattle.operations.specs.declared.call.Call.TheVariants.{Census}
-use Rattle.operations.specs.declared.call.Reply.TheVariants.{Refused}
+use Rattle.cpu.specs.declared.call.Call.TheVariants.{Census}
+use Rattle.cpu.specs.declared.call.Reply.TheVariants.{Refused}
 use Rattle.cpu.specs.declared.inspect.Censused.{Censused}
 use Rattle.cpu.specs.Step.{ends, refused_or, missed_by, run_of, ram_of, step_of, ram_after}
 

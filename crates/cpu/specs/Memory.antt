@@ -6,10 +6,9 @@ use Rattle.word.specs.Ram.{word_at}
 use Rattle.tlb.specs.declared.{access.Kind.Kind, Tlb.Tlb}
 use Rattle.tlb.specs.declared.access.Kind.TheVariants.{Read, Write}
 use Rattle.cpu.specs.Core.{after_access, bank_now}
-use Rattle.operations.specs.Ends.{load_end, store_end, store_ram_end, fetch_end, reached_by}
+use Rattle.cpu.specs.Ends.{LoadEnd, StoreEnd, FetchEnd, load_end, store_end, store_ram_end, fetch_end, reached_by}
 use Rattle.cpu.specs.Translations.{translate_in, past_hint_step, translate_fetch_in, located_of}
 use Rattle.cpu.specs.declared.Core.{Core}
-use Rattle.operations.specs.declared.{ends.LoadEnd.LoadEnd, ends.StoreEnd.StoreEnd, ends.FetchEnd.FetchEnd}
 
 -- its translations: on its own registers, level and cache
 unfoldable pub stepped_now : Core → (ℕ → Option ℕ) → ℕ → Kind → Stepped

@@ -12,15 +12,15 @@ use Rattle.tlb.specs.declared.access.Kind.{Kind}
 use Rattle.tlb.specs.declared.access.Kind.TheVariants.{Read, Write}
 use Rattle.cpu.specs.Bare.{bare_of}
 use Rattle.cpu.specs.Core.{after_access, bank_now}
-use Rattle.operations.specs.BytesLaws.{address_in, store_length, store-leaves}
-use Rattle.operations.specs.Ends.{store_ram_end}
+use Rattle.cpu.specs.BytesLaws.{address_in, store_length, store-leaves}
+use Rattle.cpu.specs.Ends.{store_ram_end}
 use Rattle.cpu.specs.Memory.{stepped_now, fetch_stepped_now, located_now, translate_of, translate_access_of, read_of, write_of, ram_after_write, fetch_of, fetch_pa_of}
 use Rattle.cpu.specs.Memory.{data_pa_of}
 use Rattle.cpu.specs.Translations.{translate_in, translate_fetch_in}
 use Rattle.cpu.specs.Asks.{access_asks, access_at, placed_from, located-asks}
 use Rattle.cpu.specs.declared.Core.{Core}
-use Rattle.operations.specs.declared.place.Place.{Place}
-use Rattle.operations.specs.Answers.{Placed}
+use Rattle.cpu.specs.declared.place.Place.{Place}
+use Rattle.cpu.specs.Answers.{Placed}
 
 -- the operations; n is a number of bytes
 pub data Operation : Type 0 where

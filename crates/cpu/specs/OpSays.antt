@@ -4,8 +4,8 @@ use Rattle.std.proofs.Common.{ap, ◌∙◌}
 use Rattle.word.specs.Ram.{word_at}
 use Rattle.tlb.specs.Asks.{Given, answers}
 use Rattle.tlb.specs.declared.access.Kind.TheVariants.{Read, Write}
-use Rattle.operations.specs.Bytes.{value_at}
-use Rattle.operations.specs.Ends.{reached_by, store_ram_end}
+use Rattle.cpu.specs.Bytes.{value_at}
+use Rattle.cpu.specs.Ends.{reached_by, store_ram_end}
 use Rattle.cpu.specs.Memory.{stepped_now, fetch_stepped_now, translate_of, translate_access_of, read_of, write_of, ram_after_write, fetch_of, fetch_pa_of, data_pa_of}
 use Rattle.cpu.specs.Says.{Said, value, done, answer_says, placed_says, reached_says, load_says, store_says, fetch_says, access_says, verdict_in, insn_says}
 use Rattle.cpu.specs.Says.{load-says, store-says, fetch-says}
@@ -13,7 +13,7 @@ use Rattle.cpu.specs.Translations.{translate_in, translate_fetch_in}
 use Rattle.cpu.specs.Asks.{first_of, placed_from}
 use Rattle.cpu.specs.OpLaws.{Operation, translate, access, load, store, fetch, fetch_pa, data_pa, operation_ram, asks_of, on_now, access_now, placed_by}
 use Rattle.cpu.specs.declared.Core.{Core}
-use Rattle.operations.specs.Answers.{Placed}
+use Rattle.cpu.specs.Answers.{Placed}
 
 abbrev pub says : Core → ℕ → List ℕ → Operation → Said
 says c base ram (translate va kind) = answer_says va (translate_of c (word_at base ram 8) va kind).answer

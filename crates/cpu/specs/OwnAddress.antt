@@ -15,18 +15,18 @@ use Rattle.tlb.proofs.Translations.{translation-follows}
 use Rattle.tlb.specs.Translate.{access_of}
 use Rattle.tlb.specs.declared.{access.Kind.Kind, Tlb.Tlb}
 use Rattle.tlb.specs.Answers.{Answer}
-use Rattle.operations.specs.Answers.{Placed, fault_at}
+use Rattle.cpu.specs.Answers.{Placed, fault_at}
 use Rattle.cpu.specs.Core.{after_access, bank_now}
-use Rattle.operations.specs.Place.{in_page, next_page, crosses, goes_on}
-use Rattle.operations.specs.PlaceLaws.{same-page, same-offset, next-first}
-use Rattle.operations.specs.BytesLaws.{address_in}
+use Rattle.cpu.specs.Place.{in_page, next_page, crosses, goes_on}
+use Rattle.cpu.specs.PlaceLaws.{same-page, same-offset, next-first}
+use Rattle.cpu.specs.BytesLaws.{address_in}
 use Rattle.cpu.specs.PageLaws.{answer_at, step-page, step-offset}
 use Rattle.cpu.specs.Translations.{one_page, both_pages, translate_in, located_of}
 use Rattle.cpu.specs.Memory.{stepped_now, located_now, translate_of}
 use Rattle.cpu.specs.OpLaws.{on_now}
 use Rattle.cpu.specs.declared.Core.{Core}
-use Rattle.operations.specs.declared.place.Place.{Place}
-use Rattle.operations.specs.declared.place.Place.TheVariants.{Whole, Split}
+use Rattle.cpu.specs.declared.place.Place.{Place}
+use Rattle.cpu.specs.declared.place.Place.TheVariants.{Whole, Split}
 
 -- the virtual address of byte i
 abbrev pub byte_va : ℕ → ℕ → ℕ

@@ -2,7 +2,7 @@
 use Rattle.std.specs.Prelude.{ℕ, Option}
 use Rattle.tlb.specs.declared.Tlb.{Tlb}
 use Rattle.tlb.specs.Answers.{Answer}
-use Rattle.operations.specs.Answers.{Placed, LoadAnswer, StoreAnswer, FetchAnswer}
+use Rattle.cpu.specs.Answers.{Placed, LoadAnswer, StoreAnswer, FetchAnswer}
 use Rattle.cpu.specs.declared.Core.{Core}
 
 -- of a cache

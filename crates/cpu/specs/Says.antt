@@ -5,15 +5,15 @@ use Rattle.word.specs.Bits.{wrap}
 use Rattle.word.specs.Ram.{little_endian, within, word_at}
 use Rattle.tlb.specs.declared.access.Kind.TheVariants.{Read, Write}
 use Rattle.tlb.specs.Answers.{Answer}
-use Rattle.operations.specs.Answers.{Placed, Verdict, LoadAnswer, StoreAnswer, FetchAnswer}
+use Rattle.cpu.specs.Answers.{Placed, Verdict, LoadAnswer, StoreAnswer, FetchAnswer}
 use Rattle.exception.specs.declared.{kind.Stop.Stop, kind.Exception.Exception}
 use Rattle.exception.specs.declared.kind.Exception.TheVariants.{Undefined, Svc, Hvc, Smc, Brk, DataAbort, InsnAbort, PcAlignment}
-use Rattle.operations.specs.Place.{verdict_of}
-use Rattle.operations.specs.Bytes.{value_at, load_of, insn_of}
-use Rattle.operations.specs.Ends.{load_end, store_end, fetch_end}
+use Rattle.cpu.specs.Place.{verdict_of}
+use Rattle.cpu.specs.Bytes.{value_at, load_of, insn_of}
+use Rattle.cpu.specs.Ends.{load_end, store_end, fetch_end}
 use Rattle.cpu.specs.Memory.{fetch_stepped_now, located_now, read_of, write_of, fetch_of}
 use Rattle.cpu.specs.declared.Core.{Core}
-use Rattle.operations.specs.declared.place.Place.{Place}
+use Rattle.cpu.specs.declared.place.Place.{Place}
 
 -- value: what was loaded or fetched, or where an access goes. lies: the place of an access. faults: no more is told.
 pub data Said : Type 0 where

@@ -1,9 +1,9 @@
 -- Which calls set the two physical addresses that a core keeps: `last_pa` a load alone; `abort_pa` a load, a store, a fetch and DC ZVA.
 use Rattle.std.specs.Prelude.{◌≡◌, ℕ, Bool, true, false, List}
 use Rattle.cpu.specs.System.{op_of}
-use Rattle.operations.specs.declared.call.Call.{Call}
-use Rattle.operations.specs.declared.call.Call.TheVariants.{Translate, DataPa, FetchPa, Load as LoadCall, Store as StoreCall, Fetch, System, Register, Level}
-use Rattle.operations.specs.declared.call.Call.TheVariants.{Mark, General, Abort, Census}
+use Rattle.cpu.specs.declared.call.Call.{Call}
+use Rattle.cpu.specs.declared.call.Call.TheVariants.{Translate, DataPa, FetchPa, Load as LoadCall, Store as StoreCall, Fetch, System, Register, Level}
+use Rattle.cpu.specs.declared.call.Call.TheVariants.{Mark, General, Abort, Census}
 use Rattle.cpu.specs.declared.Core.{Core}
 use Rattle.cpu.specs.EveryCallEnds.{zeroes}
 use Rattle.cpu.specs.Step.{step_of}

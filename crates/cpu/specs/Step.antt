@@ -8,12 +8,12 @@ use Rattle.cpu.specs.Memory.{translate_of, read_of, write_of, ram_after_write, f
 use Rattle.cpu.specs.declared.Core.{Core}
 use Rattle.cpu.specs.Registers.{after_register_write, set_level, set_mark, abort_of}
 use Rattle.cpu.specs.System.{sys_of, sys_ram}
-use Rattle.operations.specs.Check.{missed_of}
-use Rattle.operations.specs.declared.{call.Call.Call, call.Reply.Reply}
-use Rattle.operations.specs.declared.call.Call.TheVariants.{Translate, DataPa, FetchPa, Load as LoadCall, Store as StoreCall, Fetch, System, Register, Level}
-use Rattle.operations.specs.declared.call.Call.TheVariants.{Mark, General, Abort, Census}
-use Rattle.operations.specs.declared.call.Reply.TheVariants.{Refused, Done}
-use Rattle.operations.specs.Replies.{translation, loading, storing, fetching, reaching, registering}
+use Rattle.cpu.specs.Check.{missed_of}
+use Rattle.cpu.specs.declared.{call.Call.Call, call.Reply.Reply}
+use Rattle.cpu.specs.declared.call.Call.TheVariants.{Translate, DataPa, FetchPa, Load as LoadCall, Store as StoreCall, Fetch, System, Register, Level}
+use Rattle.cpu.specs.declared.call.Call.TheVariants.{Mark, General, Abort, Census}
+use Rattle.cpu.specs.declared.call.Reply.TheVariants.{Refused, Done}
+use Rattle.cpu.specs.Replies.{translation, loading, storing, fetching, reaching, registering}
 use Rattle.word.specs.declared.ram.Width.{Width}
 
 -- the core after a call, and its reply

@@ -21,7 +21,7 @@ use Rattle.cpu.specs.Bare.{bare_of, in_core}
 use Rattle.cpu.specs.Core.{reg_of}
 use Rattle.cpu.specs.Memory.{with_tlb, write_of, ram_after_write}
 use Rattle.cpu.specs.declared.Core.{Core}
-use Rattle.operations.specs.Answers.{StoreAnswer}
+use Rattle.cpu.specs.Answers.{StoreAnswer}
 
 -- MAIR of a regime
 abbrev pub mair_of : SysRegs → Regime → ℕ

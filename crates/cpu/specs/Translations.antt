@@ -9,7 +9,7 @@ use Rattle.tlb.specs.Translate.{access_of, past_hint_in, translation_in, tlb_aft
 use Rattle.tlb.specs.declared.{access.Kind.Kind, access.Privilege.Privilege, Tlb.Tlb}
 use Rattle.tlb.specs.Answers.{Answer}
 use Rattle.tlb.specs.declared.access.Kind.TheVariants.{Fetch}
-use Rattle.operations.specs.Place.{next_page, crosses, goes_on, placed_one, placed_both}
+use Rattle.cpu.specs.Place.{next_page, crosses, goes_on, placed_one, placed_both}
 
 abbrev pub one_page : ℕ → Stepped → Located
 one_page va a = record { tlb = a.tlb; placed = placed_one va a.answer }

@@ -12,18 +12,18 @@ use Rattle.word.proofs.RamLaws.{within_low, within-high, written_byte}
 use Rattle.tlb.specs.declared.access.Kind.TheVariants.{Write}
 use Rattle.fault.specs.declared.Fault.{Fault}
 use Rattle.tlb.specs.Answers.{Answer}
-use Rattle.operations.specs.Answers.{Placed, StoreAnswer, fault_at}
+use Rattle.cpu.specs.Answers.{Placed, StoreAnswer, fault_at}
 use Rattle.exception.specs.declared.kind.Stop.{Stop}
 use Rattle.cpu.specs.Core.{after_access, bank_now}
-use Rattle.operations.specs.Place.{in_page, crosses, goes_on, placed_one, verdict_of}
-use Rattle.operations.specs.Bytes.{store_ram}
-use Rattle.operations.specs.BytesLaws.{stored-leaves}
+use Rattle.cpu.specs.Place.{in_page, crosses, goes_on, placed_one, verdict_of}
+use Rattle.cpu.specs.Bytes.{store_ram}
+use Rattle.cpu.specs.BytesLaws.{stored-leaves}
 use Rattle.cpu.specs.Translations.{one_page, translate_in, located_of}
-use Rattle.operations.specs.Ends.{store_end, store_ram_end}
+use Rattle.cpu.specs.Ends.{store_end, store_ram_end}
 use Rattle.cpu.specs.Memory.{stepped_now, located_now, translate_of, write_of, ram_after_write}
 use Rattle.cpu.specs.OpLaws.{on_now}
 use Rattle.cpu.specs.declared.Core.{Core}
-use Rattle.operations.specs.declared.place.Place.TheVariants.{Whole}
+use Rattle.cpu.specs.declared.place.Place.TheVariants.{Whole}
 use Rattle.cpu.specs.System.{done_with, on_stored, zero_of, zero_ram}
 
 -- ONE STORE OF EIGHT ZERO BYTES, at an address of which it is a multiple

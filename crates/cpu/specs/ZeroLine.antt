@@ -11,11 +11,11 @@ use Rattle.tlb.specs.declared.access.Kind.TheVariants.{Write}
 use Rattle.tlb.specs.declared.Tlb.{Tlb}
 use Rattle.tlb.specs.Answers.{Answer}
 use Rattle.cpu.specs.Core.{after_access, bank_now}
-use Rattle.operations.specs.Place.{placed_one, verdict_of}
-use Rattle.operations.specs.Ends.{store_end}
+use Rattle.cpu.specs.Place.{placed_one, verdict_of}
+use Rattle.cpu.specs.Ends.{store_end}
 use Rattle.cpu.specs.Translations.{translate_in}
 use Rattle.cpu.specs.Memory.{stepped_now, translate_of, stored_by, write_after, write_of, ram_after_write}
-use Rattle.operations.specs.BytesLaws.{stored-length}
+use Rattle.cpu.specs.BytesLaws.{stored-length}
 use Rattle.cpu.specs.declared.Core.{Core}
 use Rattle.cpu.specs.System.{done_with, on_stored, zero_of, zero_ram}
 use Rattle.cpu.specs.ZeroLaws.{one-located, one-ram, store_va, store-va}

@@ -14,9 +14,9 @@ use Rattle.walk.specs.Regime.{bank_of, regime_of}
 use Rattle.tlb.specs.Live.{WellFormed}
 use Rattle.tlb.specs.declared.access.Kind.TheVariants.{Write}
 use Rattle.tlb.specs.Answers.{Answer}
-use Rattle.operations.specs.Answers.{StoreAnswer}
+use Rattle.cpu.specs.Answers.{StoreAnswer}
 use Rattle.cpu.specs.Core.{bank_now, reg_of}
-use Rattle.operations.specs.BytesLaws.{stored-leaves}
+use Rattle.cpu.specs.BytesLaws.{stored-leaves}
 use Rattle.cpu.specs.PageLaws.{step-offset}
 use Rattle.cpu.specs.PageGiven.{Gives, gives-page, given, step_gives}
 use Rattle.cpu.specs.Translations.{translate_in}

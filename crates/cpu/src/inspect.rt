@@ -2,11 +2,9 @@
 ghost use Rattle.std.specs.Prelude.{◌≡◌};
 ghost use Rattle.cpu.specs.Inspect.{census_by};
 
-use crate::Core;
+use crate::call::Reply;
+use crate::{Core, check};
 use census::count;
-use operations::call::Reply;
-use operations::check;
-use walk::regime::{Bank, Regime};
 
 /// The 129 counts of a census, all 0 where it is refused, and its reply.
 #[derive(Clone, Copy)]
@@ -27,9 +25,15 @@ impl Core {
             let reply = Reply::from(check);
             return Censused { counts, reply };
         }
-        let regime = Regime::of_level(level);
-        let s = Bank::new(&self.control, regime);
-        count::count(s, regime, first, pages, base, ram, &mut counts);
+        count::count(
+            self.bank(),
+            self.regime(),
+            first,
+            pages,
+            base,
+            ram,
+            &mut counts,
+        );
         Censused {
             counts,
             reply: Reply::Done,

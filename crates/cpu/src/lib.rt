@@ -2,6 +2,7 @@
 // The core, as one machine: its memory, its system operations, its registers, and each call, checked in the order of
 // docs/SCOPE.md and then done.
 ghost use Rattle.std.specs.Prelude.{◌≡◌};
+ghost use Rattle.walk.specs.Regime.{regime_of};
 
 use exception::flags::Flags;
 use sysreg::regs::{Control, SysRegs};
@@ -9,10 +10,15 @@ use tlb::Tlb;
 use tlb::access::Privilege;
 use walk::regime::{Bank, Regime};
 
+pub mod bytes;
+pub mod call;
+pub mod check;
 mod fit;
 pub mod inspect;
 mod memory;
+pub mod place;
 mod registers;
+pub mod reply;
 mod step;
 mod sys;
 pub mod theorems;
@@ -74,10 +80,17 @@ impl Core {
         }
     }
 
-    /// The registers of the level's regime.
+    /// The regime of its level, EL1 at EL0.
+    pub fn regime(&self) -> Regime
+        ensures { result ≡ regime_of self.now.privilege.level }
+    {
+        Regime::of_level(self.privilege.level)
+    }
+
+    /// The registers of its regime.
     pub fn bank(&self) -> Bank
         ensures { result ≡ bank_now self.now }
     {
-        Bank::new(&self.control, Regime::of_level(self.privilege.level))
+        Bank::new(&self.control, self.regime())
     }
 }

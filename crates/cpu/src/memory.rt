@@ -1,19 +1,34 @@
 // The core's operations on memory.
 ghost use Rattle.std.specs.Prelude.{◌≡◌};
 ghost use Rattle.word.specs.Ram.{word_at, bytes_in};
+ghost use Rattle.exception.specs.Abort.{insn_abort_at};
 ghost use Rattle.cpu.specs.Core.{bank_now};
+ghost use Rattle.cpu.specs.Ends.{external, data_abort, external_abort};
 ghost use Rattle.cpu.specs.Memory.{translate_of, past_hint_of, translate_fetch_of, translate_access_of};
 ghost use Rattle.cpu.specs.Hand.{HandedNow, KeptNow, NeedsWalkNow};
 ghost use Rattle.cpu.specs.Memory.{read_of, write_of, ram_after_write, fetch_of, fetch_pa_of, data_pa_of};
 
-use crate::Core;
-use exception::kind::{Exception, Stop};
+use crate::place::{FaultAt, Outside, Pages, Place};
+use crate::{Core, bytes, place};
+use exception::kind::{DataAbort, Exception, InsnAbort, Stop};
 use fault::Fault;
-use operations::place::{FaultAt, Pages, Place};
-use operations::{ends, lookup, place};
 use tlb::access::{Kind, Request};
 use tlb::hint::FetchHint;
+use walk::fsc::FSC_EXTERNAL;
 use word::ram::Width;
+
+// An external abort's.
+fn external() -> Fault
+    ensures { result ≡ external }
+{
+    fault::first(FSC_EXTERNAL)
+}
+
+fn data_abort(addr: u64, write: bool, fault: Fault) -> Stop
+    ensures { result ≡ data_abort addr write fault }
+{
+    Stop::Exception(Exception::DataAbort(DataAbort { addr, write, fault }))
+}
 
 impl Core {
     // An access as the core makes it.
@@ -109,8 +124,7 @@ impl Core {
         ensures { record { core = self.new; placed = result }
             ≡ translate_access_of self.old (word_at base ram.now 8) va (bytes_in width) kind }
     {
-        let s = self.bank();
-        let on = lookup::on_at(s, self.privilege.level);
+        let on = self.bank().stage1_on(self.regime());
         let first = self.translate(base, ram, va, kind);
         let pa = first.map_err(|fault| FaultAt { addr: va, fault })?;
         if !place::crosses(on, va, width.bytes()) {
@@ -123,20 +137,25 @@ impl Core {
         Ok(Place::Split(Pages { in_page, pa, pa2 }))
     }
 
-    /// A load.
-    #[tactic(auto, unfolding(crate::specs::Memory::read_of, crate::specs::Memory::translate_access_of, crate::specs::Core::after_access))]
+    /// The value of a width's bytes from va on. `last_pa` is the first byte's physical address once the translations
+    /// have succeeded, also where the load then aborts. An error is a data abort of a read: a fault of its page, or an
+    /// external abort at the lowest byte outside RAM, whose physical address `abort_pa` then is.
+    #[tactic(auto, unfolding(crate::specs::Memory::read_of, crate::specs::Memory::translate_access_of, crate::specs::Core::after_access, crate::specs::Ends::load_end))]
     pub fn read(&mut self, base: u64, ram: &[u8], va: u64, width: Width) -> Result<u64, Stop>
         ensures { record { core = self.new; answer = result } ≡ read_of self.old base ram.now va (bytes_in width) }
     {
         let placed = self.translate_access(base, ram, va, width, Kind::Read);
-        let end = ends::load_end(placed, self.last_pa, self.abort_pa, base, ram, va, width);
-        self.last_pa = end.last_pa;
-        self.abort_pa = end.abort_pa;
-        end.answer
+        let place = placed.map_err(|at| data_abort(at.addr, false, at.fault))?;
+        self.last_pa = place.first_pa();
+        match bytes::load(base, ram, place, width) {
+            Ok(v) => Ok(v),
+            Err(out) => Err(self.external_abort(out, va, false)),
+        }
     }
 
-    /// A store of the low bytes of a value.
-    #[tactic(auto, unfolding(crate::specs::Memory::write_of, crate::specs::Memory::ram_after_write, crate::specs::Memory::translate_access_of, crate::specs::Core::after_access), using(crate::proofs::Ram::len))]
+    /// A store of the low bytes of a value. A split one keeps the bytes before the lowest outside RAM. An error is a
+    /// data abort of a write, as a load's.
+    #[tactic(auto, unfolding(crate::specs::Memory::write_of, crate::specs::Memory::ram_after_write, crate::specs::Memory::translate_access_of, crate::specs::Core::after_access, crate::specs::Ends::store_end, crate::specs::Ends::store_ram_end), using(crate::proofs::Ram::len))]
     pub fn write(
         &mut self,
         base: u64,
@@ -150,20 +169,45 @@ impl Core {
         ensures ram { ram.new ≡ ram_after_write self.old base ram.old va (bytes_in width) value }
     {
         let placed = self.translate_access(base, ram, va, width, Kind::Write);
-        let end = ends::store_end(placed, self.abort_pa, base, ram, va, width, value);
-        self.abort_pa = end.abort_pa;
-        end.answer
+        let place = placed.map_err(|at| data_abort(at.addr, true, at.fault))?;
+        match bytes::store(base, ram, place, width, value) {
+            Ok(()) => Ok(()),
+            Err(out) => Err(self.external_abort(out, va, true)),
+        }
     }
 
-    /// An instruction, by the fetch hint first.
-    #[tactic(auto, unfolding(crate::specs::Memory::fetch_of, crate::specs::Memory::translate_fetch_of, crate::specs::Core::after_access))]
+    // The access to va aborted at the byte that is outside: record where and say so.
+    fn external_abort(&mut self, out: Outside, va: u64, write: bool) -> Stop
+        ensures answer { result ≡ external_abort va out.index write }
+        ensures core { self.new ≡ record self.old { abort_pa = out.pa } }
+    {
+        self.abort_pa = out.pa;
+        data_abort(va.wrapping_add(out.index), write, external())
+    }
+
+    /// The instruction at va, by the fetch hint first: four bytes, never split. An error is an instruction abort at va.
+    #[tactic(auto, unfolding(crate::specs::Memory::fetch_of, crate::specs::Memory::translate_fetch_of, crate::specs::Core::after_access, crate::specs::Ends::fetch_end))]
     pub fn fetch(&mut self, base: u64, ram: &[u8], va: u64) -> Result<u32, Exception>
         ensures { record { core = self.new; answer = result } ≡ fetch_of self.old base ram.now va }
     {
         let at = self.translate_fetch(base, ram, va);
-        let end = ends::fetch_end(at, self.abort_pa, base, ram, va);
-        self.abort_pa = end.abort_pa;
-        end.answer
+        let pa = at.map_err(|fault| Exception::InsnAbort(InsnAbort { addr: va, fault }))?;
+        match bytes::insn_at(base, ram, pa) {
+            Some(insn) => Ok(insn),
+            None => Err(self.fetch_abort(pa, va)),
+        }
+    }
+
+    // The instruction fetch aborted on the bus: record where and say so.
+    fn fetch_abort(&mut self, pa: u64, va: u64) -> Exception
+        ensures answer { result ≡ insn_abort_at va external }
+        ensures core { self.new ≡ record self.old { abort_pa = pa } }
+    {
+        self.abort_pa = pa;
+        Exception::InsnAbort(InsnAbort {
+            addr: va,
+            fault: external(),
+        })
     }
 
     /// Where a fetch of va goes, by the same hint, which a new page refreshes.

@@ -2,10 +2,9 @@
 ghost use Rattle.std.specs.Prelude.{◌≡◌};
 ghost use Rattle.cpu.specs.Step.{run_of, ram_of, step_of, ram_after};
 
-use crate::Core;
-use operations::call::{Call, Reply};
-use operations::check;
-use operations::check::Check;
+use crate::call::{Call, Reply};
+use crate::check::Check;
+use crate::{Core, check};
 use word::ram::Width;
 
 impl Core {

@@ -1,5 +1,5 @@
 -- A translation that its hint serves, or that no hint serves, on plain values.
-use Rattle.std.specs.Prelude.{if◌then◌else◌, ◌≡◌, Bool, true, false, List, ℕ, Option, Some, None, Ok}
+use Rattle.std.specs.Prelude.{if◌then◌else◌, ◌≡◌, Bool, true, false, ℕ, Option, Some, None, Ok}
 use Rattle.std.proofs.Common.{refl, sym, ap, ◌∙◌, subst}
 use Rattle.tlb.specs.Answers.{Answer}
 use Rattle.tlb.specs.Translate.{hint_in}
@@ -9,7 +9,7 @@ use Rattle.cpu.specs.Hand.{NeedsWalkNow}
 use Rattle.cpu.specs.Memory.{stepped_now, translate_of, past_hint_of}
 use Rattle.cpu.specs.Translations.{translate_in, past_hint_step}
 use Rattle.cpu.specs.declared.Core.{Core}
-use Rattle.operations.specs.declared.call.Reply.{Reply}
+use Rattle.cpu.specs.declared.call.Reply.{Reply}
 use Rattle.call_words.specs.Replies.{code_by, value_by}
 use Rattle.cpu.specs.Step.{Stepped}
 use Rattle.quick.specs.Says.{Tells, asked_reply, asked_run}

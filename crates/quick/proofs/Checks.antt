@@ -8,12 +8,12 @@ use Rattle.tlb.specs.declared.access.Kind.{Kind}
 use Rattle.tlb.specs.declared.access.Kind.TheVariants.{Read}
 use Rattle.cpu.specs.Memory.{translate_of, data_pa_of, read_of, write_of, ram_after_write}
 use Rattle.cpu.specs.declared.Core.{Core}
-use Rattle.operations.specs.Check.{number_of, first_of, passes, ram_rows, sized_rows, missed_of}
-use Rattle.operations.specs.declared.{call.Call.Call, check.Check.Check}
-use Rattle.operations.specs.declared.call.Reply.TheVariants.{Refused}
+use Rattle.cpu.specs.Check.{number_of, first_of, passes, ram_rows, sized_rows, missed_of}
+use Rattle.cpu.specs.declared.{call.Call.Call, check.Check.Check}
+use Rattle.cpu.specs.declared.call.Reply.TheVariants.{Refused}
 use Rattle.cpu.specs.System.{sys_of, sys_ram}
 use Rattle.system.specs.declared.decode.Encoding.{Encoding}
-use Rattle.operations.specs.declared.call.Call.TheVariants.{Translate, DataPa, FetchPa, Load, Store, Fetch, System}
+use Rattle.cpu.specs.declared.call.Call.TheVariants.{Translate, DataPa, FetchPa, Load, Store, Fetch, System}
 use Rattle.cpu.specs.Step.{Stepped, after_load, after_store, load_by, store_by, store_ram_by}
 use Rattle.cpu.specs.Step.{ends, missed_by, run_of, ram_of, step_of, ram_after}
 use Rattle.quick.specs.Says.{Tells, ram_checked, asked_run, fetch_run}

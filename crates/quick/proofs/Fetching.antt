@@ -15,8 +15,8 @@ use Rattle.cpu.specs.Memory.{with_tlb, fetch_stepped_now, past_hint_of, translat
 use Rattle.cpu.specs.Translations.{past_hint_step, translate_fetch_in}
 use Rattle.cpu.specs.Results.{Translated, Fetched}
 use Rattle.cpu.specs.declared.Core.{Core}
-use Rattle.operations.specs.Bytes.{insn_of}
-use Rattle.operations.specs.Ends.{external, fetch_end, fetched_from}
+use Rattle.cpu.specs.Bytes.{insn_of}
+use Rattle.cpu.specs.Ends.{external, fetch_end, fetched_from}
 use Rattle.cpu.specs.Step.{Stepped, after_fetch, after_address}
 use Rattle.quick.specs.Says.{Tells, fetched_of, reached_of, hint_left, fetch_run, fetch_ended}
 

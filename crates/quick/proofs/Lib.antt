@@ -1,4 +1,5 @@
 -- Laws that the answers cite.
+mod Both
 mod ByHint
 mod OnePage
 mod OneStore

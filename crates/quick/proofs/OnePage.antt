@@ -13,15 +13,15 @@ use Rattle.cpu.specs.Memory.{stepped_now, located_now, translate_of, loaded_by, 
 use Rattle.cpu.specs.Translations.{located_of, both_pages, one_page, translate_in}
 use Rattle.cpu.specs.Results.{Translated, Loaded, Located, Stepped as Stepped₁}
 use Rattle.cpu.specs.declared.Core.{Core}
-use Rattle.operations.specs.Answers.{Got}
-use Rattle.operations.specs.Place.{in_page, next_page, crosses, goes_on, placed_one, placed_both}
-use Rattle.operations.specs.Ends.{data_abort, external, load_end, loaded_from}
-use Rattle.operations.specs.declared.place.Place.TheVariants.{Whole, Split}
-use Rattle.operations.proofs.Moves.{whole-value, whole-abort}
+use Rattle.cpu.specs.Answers.{Got}
+use Rattle.cpu.specs.Place.{in_page, next_page, crosses, goes_on, placed_one, placed_both}
+use Rattle.cpu.specs.Ends.{data_abort, external, load_end, loaded_from}
+use Rattle.cpu.specs.declared.place.Place.TheVariants.{Whole, Split}
+use Rattle.cpu.proofs.Moves.{whole-value, whole-abort}
 use Rattle.cpu.specs.Step.{Stepped, after_load}
 use Rattle.quick.specs.Says.{Tells, ended_of}
 use Rattle.tlb.specs.Translate.{hint_in}
-use Rattle.operations.specs.Bytes.{load_of}
+use Rattle.cpu.specs.Bytes.{load_of}
 use Rattle.quick.proofs.ByHint.{hint-serves}
 
 and-false : (x : Bool) → x && false ≡ false

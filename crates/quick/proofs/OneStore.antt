@@ -14,15 +14,15 @@ use Rattle.cpu.specs.Memory.{stepped_now, located_now, translate_of, stored_by, 
 use Rattle.cpu.specs.Translations.{located_of, both_pages, one_page, translate_in}
 use Rattle.cpu.specs.Results.{Translated, Stored, Located, Stepped as Stepped₁}
 use Rattle.cpu.specs.declared.Core.{Core}
-use Rattle.operations.specs.Answers.{Verdict}
-use Rattle.operations.specs.Place.{in_page, next_page, crosses, goes_on, placed_both}
-use Rattle.operations.specs.Bytes.{store_ram}
-use Rattle.operations.specs.AtOnce.{both_inside, both_stored, pair_at}
-use Rattle.operations.specs.Ends.{data_abort, external, store_end, store_end_by, store_ram_end}
-use Rattle.operations.specs.declared.place.Pages.{Pages}
-use Rattle.operations.specs.declared.place.Place.TheVariants.{Split}
-use Rattle.operations.proofs.Moves.{whole-inside, whole-outside}
-use Rattle.operations.proofs.Both.{both-judged, both-stores}
+use Rattle.cpu.specs.Answers.{Verdict}
+use Rattle.cpu.specs.Place.{in_page, next_page, crosses, goes_on, placed_both}
+use Rattle.cpu.specs.Bytes.{store_ram}
+use Rattle.quick.specs.AtOnce.{both_inside, both_stored, pair_at}
+use Rattle.cpu.specs.Ends.{data_abort, external, store_end, store_end_by, store_ram_end}
+use Rattle.cpu.specs.declared.place.Pages.{Pages}
+use Rattle.cpu.specs.declared.place.Place.TheVariants.{Split}
+use Rattle.cpu.proofs.Moves.{whole-inside, whole-outside}
+use Rattle.quick.proofs.Both.{both-judged, both-stores}
 use Rattle.word.specs.declared.ram.Width.{Width}
 use Rattle.word.specs.declared.ram.Width.TheVariants.{Half}
 use Rattle.cpu.specs.Step.{Stepped, after_store}

@@ -8,11 +8,11 @@ use Rattle.cpu.specs.Core.{set_reg}
 use Rattle.exception.specs.declared.kind.Exception.{Exception}
 use Rattle.cpu.specs.declared.Core.{Core}
 use Rattle.cpu.specs.Registers.{after_register_write, set_level, set_mark, abort_of}
-use Rattle.operations.specs.Check.{missed_of, first_of, kept, number_of}
-use Rattle.operations.specs.Replies.{registering}
-use Rattle.operations.specs.declared.check.Check.{Check}
-use Rattle.operations.specs.declared.call.Call.TheVariants.{Register, Level, General, Abort}
-use Rattle.operations.specs.declared.call.Reply.TheVariants.{Refused, Done}
+use Rattle.cpu.specs.Check.{missed_of, first_of, kept, number_of}
+use Rattle.cpu.specs.Replies.{registering}
+use Rattle.cpu.specs.declared.check.Check.{Check}
+use Rattle.cpu.specs.declared.call.Call.TheVariants.{Register, Level, General, Abort}
+use Rattle.cpu.specs.declared.call.Reply.TheVariants.{Refused, Done}
 use Rattle.cpu.specs.Step.{step_of, run_of, after_write}
 use Rattle.call_words.specs.Replies.{code_by, value_by}
 use Rattle.call_words.specs.Ops.{mark_call}

@@ -1,2 +1,3 @@
 -- What the contracts of `quick` cite.
+pub mod AtOnce
 pub mod Says

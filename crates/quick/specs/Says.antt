@@ -6,13 +6,13 @@ use Rattle.cpu.specs.Memory.{with_tlb, loaded_by, read_of, stored_by, write_of, 
 use Rattle.cpu.specs.Results.{Translated, Loaded, Stored, Fetched, Addressed}
 use Rattle.tlb.specs.Answers.{Answer}
 use Rattle.tlb.specs.Translate.{fetch_left}
-use Rattle.operations.specs.Place.{placed_one}
-use Rattle.operations.specs.Ends.{load_end, store_end, store_ram_end, fetch_end, reached_by}
+use Rattle.cpu.specs.Place.{placed_one}
+use Rattle.cpu.specs.Ends.{load_end, store_end, store_ram_end, fetch_end, reached_by}
 use Rattle.cpu.specs.System.{done_with, zero_of, zero_ram}
-use Rattle.operations.specs.Check.{first_of, ram_rows}
-use Rattle.operations.specs.Replies.{translation, reaching}
-use Rattle.operations.specs.declared.call.Reply.{Reply}
-use Rattle.operations.specs.declared.call.Reply.TheVariants.{Refused}
+use Rattle.cpu.specs.Check.{first_of, ram_rows}
+use Rattle.cpu.specs.Replies.{translation, reaching}
+use Rattle.cpu.specs.declared.call.Reply.{Reply}
+use Rattle.cpu.specs.declared.call.Reply.TheVariants.{Refused}
 use Rattle.cpu.specs.Step.{Stepped, ends, refused_or, step_of, after_fetch, after_address}
 use Rattle.call_words.specs.Replies.{code_by, value_by}
 use Rattle.call_words.specs.declared.op.DecodedCall.{DecodedCall}

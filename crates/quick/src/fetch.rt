@@ -4,15 +4,14 @@ ghost use Rattle.std.specs.Prelude.{◌≡◌, None};
 ghost use Rattle.word.specs.Ram.{word_at};
 ghost use Rattle.tlb.specs.Hint.{fetch_found};
 ghost use Rattle.tlb.specs.declared.access.Kind.TheVariants.{Fetch};
-ghost use Rattle.operations.specs.declared.call.Call.TheVariants as Call;
+ghost use Rattle.cpu.specs.declared.call.Call.TheVariants as Call;
 ghost use Rattle.cpu.specs.Hand.{NeedsWalkNow};
 ghost use Rattle.cpu.specs.Step.{step_of, after_fetch};
 ghost use Rattle.quick.specs.Says.{Tells, fetched_of, hint_left, ram_checked, fetch_run, fetch_ended};
 
 use crate::translation;
-use cpu::Core;
+use cpu::{Core, bytes, check};
 use fault::Fault;
-use operations::{bytes, check};
 use tlb::access::Kind;
 use tlb::hint::FetchHint;
 

@@ -1,6 +1,7 @@
 #![tactic(auto)]
 // The calls on a core that is lent, each in the shape that costs least: the hint on scalars first, and what it does not
 // serve out of line. Each gives the call's number, and in `ans` its value.
+mod at_once;
 pub mod fetch;
 mod instance;
 pub mod load;

@@ -1,13 +1,12 @@
 // What sets a register, the level, the mark or a general register of a core that is lent, and abort entry: the number.
-ghost use Rattle.operations.specs.declared.call.Call.TheVariants as Call;
+ghost use Rattle.cpu.specs.declared.call.Call.TheVariants as Call;
 ghost use Rattle.call_words.specs.declared.op.DecodedCall.TheVariants as DecodedCall;
 ghost use Rattle.call_words.specs.Ops.{key_of, mark_call};
 ghost use Rattle.quick.specs.Says.{Sets};
 
 use call_words::op;
-use cpu::Core;
+use cpu::{Core, check};
 use exception::kind::Exception;
-use operations::check;
 use sysreg::write::WriteError;
 
 /// A register write, by the register's key.

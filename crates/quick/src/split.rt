@@ -1,12 +1,12 @@
 // Loads and stores over two pages whose hints both serve and whose bytes lie in RAM.
 ghost use Rattle.std.specs.Prelude.{◌≡◌, ◌<◌, length};
 ghost use Rattle.word.specs.Ram.{bytes_in};
-ghost use Rattle.operations.specs.AtOnce.{both_inside, both_stored};
+ghost use Rattle.quick.specs.AtOnce.{both_inside, both_stored};
 ghost use Rattle.quick.specs.Says.{OfTwo, PutTwo};
 
-use cpu::Core;
-use operations::place::Pages;
-use operations::{bytes, lookup, place};
+use crate::at_once;
+use cpu::place::Pages;
+use cpu::{Core, place};
 use tlb::access::Kind;
 use word::ram::Width;
 
@@ -15,13 +15,13 @@ use word::ram::Width;
 pub(crate) fn load(core: &Core, va: u64, width: Width, base: u64, ram: &[u8]) -> Option<(u64, u64)>
     ensures { OfTwo core.now base ram.now va (bytes_in width) result }
 {
-    let on = lookup::on_at(core.bank(), core.privilege.level);
+    let on = core.bank().stage1_on(core.regime());
     if place::crosses(on, va, width.bytes()) {
         if let Some(pa) = core.tlb.by_hint(core.privilege, va, Kind::Read) {
             let next = place::next_page(va);
             if let Some(pa2) = core.tlb.by_hint(core.privilege, next, Kind::Read) {
                 let in_page = place::in_page(va);
-                if let Some(v) = bytes::read_both(
+                if let Some(v) = at_once::read_both(
                     base,
                     ram,
                     Pages { in_page, pa, pa2 },
@@ -44,8 +44,8 @@ fn put_both(base: u64, ram: &mut [u8], p: Pages, width: Width, value: u64) -> bo
     ensures after { ram.new ≡ both_stored base ram.old p (bytes_in width) value }
 {
     match width {
-        Width::Half => bytes::write_pair(base, ram, p.pa, p.pa2, value),
-        Width::Byte | Width::Word | Width::Double => bytes::write_both(
+        Width::Half => at_once::write_pair(base, ram, p.pa, p.pa2, value),
+        Width::Byte | Width::Word | Width::Double => at_once::write_both(
             base,
             ram,
             p,
@@ -67,7 +67,7 @@ pub(crate) fn store(
 ) -> bool
     ensures { PutTwo core.now base ram.old va (bytes_in width) value result ram.new }
 {
-    let on = lookup::on_at(core.bank(), core.privilege.level);
+    let on = core.bank().stage1_on(core.regime());
     if place::crosses(on, va, width.bytes()) {
         if let Some(pa) = core.tlb.by_hint(core.privilege, va, Kind::Write) {
             let next = place::next_page(va);

@@ -2,14 +2,13 @@
 ghost use Rattle.std.specs.Prelude.{◌≡◌, ◌+◌, ◌%◌, ◌^◌, ◌≤◌};
 ghost use Rattle.word.specs.Bits.{align_down};
 ghost use Rattle.cpu.specs.System.{tlbi_core, zero_of, zero_ram, sys_of, sys_ram};
-ghost use Rattle.operations.specs.declared.call.Call.TheVariants as Call;
+ghost use Rattle.cpu.specs.declared.call.Call.TheVariants as Call;
 ghost use Rattle.call_words.specs.Ops.{encoding_of};
 ghost use Rattle.cpu.specs.Step.{step_of, ram_after, after_store};
 ghost use Rattle.quick.specs.Says.{Tells, Cleared};
 
 use call_words::reply;
-use cpu::Core;
-use operations::check;
+use cpu::{Core, check};
 use system::decode;
 use system::decode::{Encoding, SysOp};
 use tlb::access::Kind;

@@ -3,9 +3,9 @@
 ghost use Rattle.std.specs.Prelude.{◌≡◌, ℕ, None};
 ghost use Rattle.word.specs.Ram.{word_at};
 ghost use Rattle.tlb.specs.Translate.{hint_in};
-ghost use Rattle.operations.specs.Ends.{reached_by};
-ghost use Rattle.operations.specs.Replies.{reaching};
-ghost use Rattle.operations.specs.declared.call.Call.TheVariants as Call;
+ghost use Rattle.cpu.specs.Ends.{reached_by};
+ghost use Rattle.cpu.specs.Replies.{reaching};
+ghost use Rattle.cpu.specs.declared.call.Call.TheVariants as Call;
 ghost use Rattle.call_words.specs.Ops.{kind_of, translate_call};
 ghost use Rattle.call_words.specs.Replies.{code_by, value_by};
 ghost use Rattle.cpu.specs.Hand.{NeedsWalkNow};
@@ -14,9 +14,8 @@ ghost use Rattle.cpu.specs.Step.{step_of};
 ghost use Rattle.quick.specs.Says.{Says, Tells, asked_reply, asked_run, ram_checked};
 
 use crate::instance::{Fetching, Purpose, Reading, Writing};
-use cpu::Core;
+use cpu::{Core, check};
 use fault::Fault;
-use operations::check;
 
 // The answer of a translation.
 #[inline(always)]

@@ -1,5 +1,5 @@
 //! Names of kinds of operation, of answers, and of classes of difference (outside/README.md).
-use operations::call::Call;
+use cpu::call::Call;
 use std::fmt;
 use system::decode::Encoding;
 use tlb::access::Kind as Access;

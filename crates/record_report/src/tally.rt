@@ -1,8 +1,8 @@
 //! How often each operation gave each answer, and how often cases were of each class of difference.
 use crate::tables::{KINDS, Kind};
+use cpu::call::Reply;
 use exception::kind::{Exception, Stop};
 use fault::Fault;
-use operations::call::Reply;
 use trace_text::answer::Answer;
 use trace_text::line::Operation;
 

@@ -1,6 +1,6 @@
 //! Records, replayed one after another on one core, and what is said of them.
 use crate::cases::Case;
-use operations::call::Reply;
+use cpu::call::Reply;
 use record_report::report;
 use record_report::report::Counts;
 use record_report::tally::Tally;

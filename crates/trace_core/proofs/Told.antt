@@ -9,13 +9,13 @@ use Rattle.exception.specs.Abort.{data_abort_at, insn_abort_at}
 use Rattle.exception.specs.declared.kind.Stop.TheVariants as Stop
 use Rattle.tlb.specs.Answers.{Answer}
 use Rattle.tlb.specs.declared.access.Kind.{Kind}
-use Rattle.operations.specs.Answers.{Placed, Verdict, Got}
-use Rattle.operations.specs.Bytes.{load_of, insn_of}
-use Rattle.operations.specs.Ends.{load_end, loaded_from, store_end, store_end_by, fetch_end, fetched_from}
-use Rattle.operations.specs.Replies.{translation, reaching, loading, storing, fetching}
-use Rattle.operations.specs.Place.{verdict_of}
-use Rattle.operations.specs.declared.{call.Call.Call, call.Reply.Reply}
-use Rattle.operations.specs.declared.call.Reply.TheVariants.{Refused, Done, Value, Faults, Fault, Stopped}
+use Rattle.cpu.specs.Answers.{Placed, Verdict, Got}
+use Rattle.cpu.specs.Bytes.{load_of, insn_of}
+use Rattle.cpu.specs.Ends.{load_end, loaded_from, store_end, store_end_by, fetch_end, fetched_from}
+use Rattle.cpu.specs.Replies.{translation, reaching, loading, storing, fetching}
+use Rattle.cpu.specs.Place.{verdict_of}
+use Rattle.cpu.specs.declared.{call.Call.Call, call.Reply.Reply}
+use Rattle.cpu.specs.declared.call.Reply.TheVariants.{Refused, Done, Value, Faults, Fault, Stopped}
 use Rattle.cpu.specs.declared.Core.{Core}
 use Rattle.cpu.specs.Memory.{translate_of, read_of, write_of, fetch_of, fetch_pa_of, data_pa_of}
 use Rattle.cpu.specs.Step.{ends, load_by, store_by, refused_or, missed_by, run_of, step_of}

@@ -3,8 +3,8 @@ use Rattle.std.specs.Prelude.{if◌then◌else◌, ℕ, ◌%◌, ◌==◌, nat_l
 use Rattle.fault.specs.First.{first}
 use Rattle.exception.specs.Abort.{data_abort_at, insn_abort_at}
 use Rattle.exception.specs.declared.kind.Stop.TheVariants as Stop
-use Rattle.operations.specs.declared.call.Reply.{Reply}
-use Rattle.operations.specs.declared.call.Reply.TheVariants.{Refused, Fault, Stopped}
+use Rattle.cpu.specs.declared.call.Reply.{Reply}
+use Rattle.cpu.specs.declared.call.Reply.TheVariants.{Refused, Fault, Stopped}
 
 -- 0: done; below 256: refused; else a fault
 abbrev pub told : ℕ → Reply → Reply → Reply

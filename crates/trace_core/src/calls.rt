@@ -7,9 +7,9 @@ ghost use Rattle.trace_core.specs.Told.{data_told, insn_told, told};
 
 use core_calls::memory;
 use cpu::Core;
+use cpu::call::{Call, Reply};
 use exception::kind::{DataAbort, Exception, InsnAbort, Stop};
 use fault::Fault;
-use operations::call::{Call, Reply};
 
 // The fault of a call that gave the number n: 256 and its status.
 fn fault_of(n: u64) -> Fault

@@ -1,8 +1,8 @@
 //! Leaves: functions of the registers as they stand, which change nothing.
 use cpu::Core;
+use cpu::call::Reply;
 use exception::enter;
 use exception::kind::Exception;
-use operations::call::Reply;
 use sysreg::encoding;
 use sysreg::regs::{ControlReg, El, Register, SysReg};
 use trace_text::answer::Answer;

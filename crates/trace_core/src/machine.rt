@@ -2,9 +2,9 @@
 use crate::{calls, edits, leaves, memory};
 use core_calls::inspect;
 use cpu::Core;
+use cpu::call::{Call, Reply};
 use digest::counts;
 use digest::parts::Sum;
-use operations::call::{Call, Reply};
 use saved::{place, save};
 use std::alloc::{AllocError, Global};
 use trace_text::answer::Answer;

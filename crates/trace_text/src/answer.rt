@@ -1,7 +1,7 @@
 //! What an operation of a trace answers.
 use call_words::reply;
+use cpu::call::Reply;
 use exception::kind::{Exception, Stop};
-use operations::call::Reply;
 use std::fmt;
 use walk::level::Leaf;
 

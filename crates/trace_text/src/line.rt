@@ -1,6 +1,6 @@
 //! The lines of a trace.
+use cpu::call::Call;
 use exception::kind::Exception;
-use operations::call::Call;
 use system::decode::Encoding;
 use walk::regime::Regime;
 

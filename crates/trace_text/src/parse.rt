@@ -4,8 +4,8 @@ use crate::lex;
 use crate::lex::{Word, Words};
 use crate::line::{LONGEST_WINDOW, Leaf, Line, Operation, Part, Poke, Setup};
 use crate::reason::{Reason, Refusal};
+use cpu::call::Call;
 use exception::kind::{DataAbort, Exception, InsnAbort};
-use operations::call::Call;
 use system::decode::Encoding;
 
 // The words of a line that are not read yet, and the column of its end.

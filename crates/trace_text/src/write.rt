@@ -1,7 +1,7 @@
 //! Operations in the oracle's text form.
 use crate::line::{Leaf, Operation, Poke};
+use cpu::call::Call;
 use exception::kind::Exception;
-use operations::call::Call;
 use std::fmt;
 
 fn exception<W: fmt::Write>(f: &mut fmt::Formatter<W>, e: Exception) -> fmt::Result {

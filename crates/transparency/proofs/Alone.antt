@@ -12,11 +12,11 @@ use Rattle.system.specs.declared.decode.SysOp.TheVariants as Op
 use Rattle.cpu.specs.Bare.{Bare, bare_of}
 use Rattle.cpu.specs.declared.Core.{Core}
 use Rattle.system.specs.declared.decode.Encoding.{Encoding}
-use Rattle.operations.specs.declared.call.Call.{Call}
-use Rattle.operations.specs.Answers.{StoreAnswer}
+use Rattle.cpu.specs.declared.call.Call.{Call}
+use Rattle.cpu.specs.Answers.{StoreAnswer}
 use Rattle.cpu.specs.System.{zero_of, zero_ram}
-use Rattle.operations.specs.Replies.{storing}
-use Rattle.operations.specs.declared.call.Call.TheVariants.{Translate, DataPa, FetchPa, Load, Store, Fetch, System}
+use Rattle.cpu.specs.Replies.{storing}
+use Rattle.cpu.specs.declared.call.Call.TheVariants.{Translate, DataPa, FetchPa, Load, Store, Fetch, System}
 use Rattle.history.specs.World.{on_now, uncached}
 use Rattle.history.specs.History.{Event, steps}
 use Rattle.history.specs.Invisible.{answers_run, plain_answers, plain_answers_run}

@@ -9,26 +9,26 @@ use Rattle.tlb.proofs.Asks.{onward-same}
 use Rattle.tlb.specs.declared.access.Kind.TheVariants as Kind
 use Rattle.tlb.specs.declared.Tlb.{Tlb}
 use Rattle.tlb.specs.Answers.{Answer}
-use Rattle.operations.specs.Answers.{Placed, Verdict, Got, StoreAnswer}
+use Rattle.cpu.specs.Answers.{Placed, Verdict, Got, StoreAnswer}
 use Rattle.system.specs.declared.decode.SysOp.{SysOp}
 use Rattle.system.specs.declared.decode.SysOp.TheVariants as Op
 use Rattle.cpu.specs.Bare.{Bare, bare_of}
 use Rattle.cpu.specs.Core.{reg_of}
-use Rattle.operations.specs.Place.{in_page, crosses, verdict_of}
-use Rattle.operations.specs.Bytes.{load_of, insn_of}
-use Rattle.operations.specs.Ends.{loaded_from, load_end, store_end_by, store_end, store_ram_end, fetched_from, fetch_end}
+use Rattle.cpu.specs.Place.{in_page, crosses, verdict_of}
+use Rattle.cpu.specs.Bytes.{load_of, insn_of}
+use Rattle.cpu.specs.Ends.{loaded_from, load_end, store_end_by, store_end, store_ram_end, fetched_from, fetch_end}
 use Rattle.cpu.specs.Translations.{translate_in, translate_fetch_in}
 use Rattle.cpu.specs.Memory.{stepped_now, fetch_stepped_now, translate_of, read_of, write_of, ram_after_write, fetch_of, fetch_pa_of, data_pa_of}
 use Rattle.cpu.specs.OpLaws.{placed_by}
 use Rattle.cpu.specs.declared.Core.{Core}
 use Rattle.system.specs.declared.decode.Encoding.{Encoding}
-use Rattle.operations.specs.declared.call.Call.{Call}
+use Rattle.cpu.specs.declared.call.Call.{Call}
 use Rattle.cpu.specs.Registers.{registered, after_register_write}
 use Rattle.cpu.specs.System.{on_stored, done_with, zero_of, zero_ram, sys_by, sys_ram_by, sys_of, sys_ram}
-use Rattle.operations.specs.Replies.{loading, storing, fetching}
+use Rattle.cpu.specs.Replies.{loading, storing, fetching}
 use Rattle.cpu.specs.Step.{ends, after_store, after_write, load_by, store_by, store_ram_by, run_of, ram_of, refused_or, step_of, ram_after}
-use Rattle.operations.specs.declared.call.Call.TheVariants.{Translate, DataPa, FetchPa, Load, Store, Fetch, System, Register}
-use Rattle.operations.specs.declared.call.Reply.TheVariants.{Refused, Done}
+use Rattle.cpu.specs.declared.call.Call.TheVariants.{Translate, DataPa, FetchPa, Load, Store, Fetch, System, Register}
+use Rattle.cpu.specs.declared.call.Reply.TheVariants.{Refused, Done}
 use Rattle.history.specs.World.{on_now}
 use Rattle.history.specs.History.{steps, answer_of, answers, tlb_asks}
 use Rattle.history.specs.Invisible.{answers_run}

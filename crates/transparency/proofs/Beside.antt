@@ -9,9 +9,9 @@ use Rattle.cpu.specs.declared.Core.{Core}
 use Rattle.cpu.specs.Registers.{registered, after_register_write}
 use Rattle.cpu.specs.System.{sys_by, sys_ram_by, sys_of, sys_ram}
 use Rattle.cpu.specs.Step.{ends, after_store, after_write, run_of, ram_of, refused_or, step_of, ram_after}
-use Rattle.operations.specs.declared.{call.Call.Call}
-use Rattle.operations.specs.declared.call.Call.TheVariants.{System, Register}
-use Rattle.operations.specs.declared.call.Reply.TheVariants.{Refused}
+use Rattle.cpu.specs.declared.{call.Call.Call}
+use Rattle.cpu.specs.declared.call.Call.TheVariants.{System, Register}
+use Rattle.cpu.specs.declared.call.Reply.TheVariants.{Refused}
 use Rattle.cpu.specs.Step.{Stepped}
 use Rattle.history.specs.Calls.{bare_run}
 use Rattle.history.proofs.EveryCall.{run-bare as runs-agree}

@@ -17,9 +17,9 @@ use Rattle.cpu.specs.OpLaws.{on_now}
 use Rattle.cpu.specs.OwnAddress.{Ready}
 use Rattle.cpu.specs.ByteMeaning.{load_byte, store_byte, store-others}
 use Rattle.cpu.specs.ZeroMeaning.{zva-zeroes}
-use Rattle.operations.specs.Check.{missed_of}
+use Rattle.cpu.specs.Check.{missed_of}
 use Rattle.cpu.specs.Step.{run_of, step_of}
-use Rattle.operations.specs.declared.call.Call.TheVariants.{Translate}
+use Rattle.cpu.specs.declared.call.Call.TheVariants.{Translate}
 use Rattle.history.specs.World.{uncached}
 use Rattle.history.specs.World as World
 use Rattle.history.proofs.Corollaries.{off-settled}

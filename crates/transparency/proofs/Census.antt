@@ -17,8 +17,8 @@ use Rattle.tlb.specs.declared.access.Kind.{Kind}
 use Rattle.cpu.specs.Bare.{Bare, fresh_bare, bare_of}
 use Rattle.cpu.specs.Core.{fresh_core}
 use Rattle.cpu.specs.declared.Core.{Core}
-use Rattle.operations.specs.declared.call.Call.TheVariants.{Census}
-use Rattle.operations.specs.declared.call.Reply.TheVariants.{Refused, Done}
+use Rattle.cpu.specs.declared.call.Call.TheVariants.{Census}
+use Rattle.cpu.specs.declared.call.Reply.TheVariants.{Refused, Done}
 use Rattle.cpu.specs.Step.{ends, run_of, refused_or, step_of}
 use Rattle.cpu.specs.Inspect.{counts_of, counts_after, census-core}
 use Rattle.history.specs.World.{leaf_answer, need_now, uncached}

@@ -19,8 +19,8 @@ use Rattle.tlb.specs.declared.{access.Kind.Kind, Inval.Inval, Tlb.Tlb}
 use Rattle.system.specs.declared.decode.SysOp.TheVariants as Op
 use Rattle.cpu.specs.Bare.{Bare}
 use Rattle.system.specs.declared.decode.Encoding.{Encoding}
-use Rattle.operations.specs.declared.call.Call.{Call}
-use Rattle.operations.specs.declared.call.Call.TheVariants.{Translate, DataPa, FetchPa, Fetch, System, Register}
+use Rattle.cpu.specs.declared.call.Call.{Call}
+use Rattle.cpu.specs.declared.call.Call.TheVariants.{Translate, DataPa, FetchPa, Fetch, System, Register}
 use Rattle.history.specs.World.{access_of}
 use Rattle.history.specs.History.{carries, writes, Event, steps}
 use Rattle.history.specs.ModelRun.{model_ask, model_after, model_flushed, model_retagged, model_run}

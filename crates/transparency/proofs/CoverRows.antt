@@ -12,7 +12,7 @@ use Rattle.tlb.specs.declared.Inval.TheVariants.{All, Page, Asid}
 use Rattle.system.specs.Decode.{named, decode_of}
 use Rattle.system.specs.Tlbi.{scope_of, what_of, tlbi_of}
 use Rattle.cpu.specs.Bare.{zeros}
-use Rattle.operations.specs.Check.{missed_of}
+use Rattle.cpu.specs.Check.{missed_of}
 use Rattle.history.proofs.Lists.{each-head}
 use Rattle.transparency.specs.Claim.{Covers}
 use Rattle.transparency.specs.CoverRows.{Was, was, leaf_of}

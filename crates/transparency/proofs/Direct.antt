@@ -10,18 +10,18 @@ use Rattle.tlb.specs.Tlb.{fresh}
 use Rattle.tlb.specs.Asks.{Ask, translates, fetches, kind_of, address_of, Given, onward}
 use Rattle.tlb.specs.declared.{access.Kind.Kind, Tlb.Tlb}
 use Rattle.tlb.specs.Answers.{Answer}
-use Rattle.operations.specs.Answers.{Placed}
+use Rattle.cpu.specs.Answers.{Placed}
 use Rattle.cpu.specs.Bare.{Bare, fresh_bare, bare_of}
 use Rattle.cpu.specs.Core.{fresh_core}
-use Rattle.operations.specs.Place.{next_page, crosses, placed_one, placed_both}
+use Rattle.cpu.specs.Place.{next_page, crosses, placed_one, placed_both}
 use Rattle.cpu.specs.Translations.{translate_in, translate_fetch_in}
 use Rattle.cpu.specs.Asks.{asks_by, first_of, placed_from}
-use Rattle.operations.specs.Ends.{reached_by, load_end, store_end, store_ram_end, fetch_end}
+use Rattle.cpu.specs.Ends.{reached_by, load_end, store_end, store_ram_end, fetch_end}
 use Rattle.cpu.specs.Memory.{stepped_now, fetch_stepped_now, translate_of, fetch_pa_of, data_pa_of, fetch_of}
 use Rattle.cpu.specs.OpLaws.{placed_by}
-use Rattle.operations.specs.Replies.{translation, reaching, loading, storing, fetching}
+use Rattle.cpu.specs.Replies.{translation, reaching, loading, storing, fetching}
 use Rattle.cpu.specs.Step.{run_of, ram_of, step_of, ram_after}
-use Rattle.operations.specs.declared.call.Call.TheVariants.{System}
+use Rattle.cpu.specs.declared.call.Call.TheVariants.{System}
 use Rattle.history.specs.World.{Plain, regime_now, page_now, on_now}
 use Rattle.history.specs.History.{nothing, plain_run, tlb_run, answer_of, answers, Settled}
 use Rattle.history.specs.Invisible.{plain_answers, Tidy}

@@ -6,7 +6,7 @@ use mathlib.Core.List.{List, ◌∷◌, ◌++◌}
 use Rattle.tlb.specs.Lists.{Each}
 use Rattle.cpu.specs.Bare.{Bare, fresh_bare}
 use Rattle.cpu.specs.Core.{fresh_core}
-use Rattle.operations.specs.declared.call.Call.{Call}
+use Rattle.cpu.specs.declared.call.Call.{Call}
 use Rattle.history.specs.History.{Step, Event, steps}
 use Rattle.history.specs.Invisible.{Tidy, answers_run}
 use Rattle.history.proofs.Lists.{answers-split}

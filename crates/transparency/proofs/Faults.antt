@@ -15,20 +15,20 @@ use Rattle.tlb.specs.Asks.{Ask, translates, fetches, address_of, Given, onward}
 use Rattle.tlb.proofs.Asks.{onward-same}
 use Rattle.tlb.specs.declared.{access.Kind.Kind, Tlb.Tlb}
 use Rattle.tlb.specs.Answers.{Answer}
-use Rattle.operations.specs.Answers.{Placed, Verdict, fault_at, outside_at}
+use Rattle.cpu.specs.Answers.{Placed, Verdict, fault_at, outside_at}
 use Rattle.cpu.specs.Bare.{Bare}
-use Rattle.operations.specs.Place.{next_page, crosses, byte_at, first_outside, verdict_of}
-use Rattle.operations.specs.PlaceLaws.{same-outside, same-fault}
-use Rattle.operations.specs.Bytes.{got_by, value_at, load_of, insn_of}
+use Rattle.cpu.specs.Place.{next_page, crosses, byte_at, first_outside, verdict_of}
+use Rattle.cpu.specs.PlaceLaws.{same-outside, same-fault}
+use Rattle.cpu.specs.Bytes.{got_by, value_at, load_of, insn_of}
 use Rattle.cpu.specs.Asks.{asks_by, placed_from}
-use Rattle.operations.specs.Ends.{reached_by, loaded_from, load_end, store_end_by, store_end, fetched_from, fetch_end}
-use Rattle.operations.specs.declared.{place.Pages.Pages, place.Place.Place}
-use Rattle.operations.specs.declared.call.Call.{Call}
-use Rattle.operations.specs.declared.place.Place.TheVariants.{Whole, Split}
+use Rattle.cpu.specs.Ends.{reached_by, loaded_from, load_end, store_end_by, store_end, fetched_from, fetch_end}
+use Rattle.cpu.specs.declared.{place.Pages.Pages, place.Place.Place}
+use Rattle.cpu.specs.declared.call.Call.{Call}
+use Rattle.cpu.specs.declared.place.Place.TheVariants.{Whole, Split}
 use Rattle.system.specs.declared.decode.SysOp.{SysOp}
 use Rattle.system.specs.declared.decode.SysOp.TheVariants as Op
-use Rattle.operations.specs.Replies.{translation, loading, storing, fetching, reaching}
-use Rattle.operations.specs.declared.call.Call.TheVariants.{Translate, DataPa, FetchPa, Load, Store, Fetch, System}
+use Rattle.cpu.specs.Replies.{translation, loading, storing, fetching, reaching}
+use Rattle.cpu.specs.declared.call.Call.TheVariants.{Translate, DataPa, FetchPa, Load, Store, Fetch, System}
 use Rattle.history.specs.World.{Plain, on_now}
 use Rattle.history.specs.History.{steps, answer_of, tlb_ask, answers, tlb_asks}
 use Rattle.history.specs.Invisible.{answers_run}

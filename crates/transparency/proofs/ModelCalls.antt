@@ -14,7 +14,7 @@ use Rattle.tlb.specs.Live.{live, WellFormed}
 use Rattle.tlb.specs.declared.Tlb.{Tlb}
 use Rattle.cpu.specs.Bare.{Bare, fresh_bare, bare_of}
 use Rattle.cpu.specs.Core.{fresh_core}
-use Rattle.operations.specs.declared.call.Call.{Call}
+use Rattle.cpu.specs.declared.call.Call.{Call}
 use Rattle.history.specs.World.{Plain}
 use Rattle.history.specs.History.{plain_run, tlb_run}
 use Rattle.history.proofs.Lists.{run-low}

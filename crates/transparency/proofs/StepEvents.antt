@@ -10,9 +10,9 @@ use Rattle.tlb.specs.declared.{access.Privilege.Privilege, Inval.Inval}
 use Rattle.cpu.specs.Bare.{Bare, bare_of, core_from}
 use Rattle.cpu.specs.declared.Core.{Core}
 use Rattle.system.specs.declared.decode.Encoding.{Encoding}
-use Rattle.operations.specs.declared.{call.Call.Call}
-use Rattle.operations.specs.declared.call.Call.TheVariants.{Load, Store, System, Register, Level, Mark, General}
-use Rattle.operations.specs.declared.call.Call.TheVariants.{Abort, Census}
+use Rattle.cpu.specs.declared.{call.Call.Call}
+use Rattle.cpu.specs.declared.call.Call.TheVariants.{Load, Store, System, Register, Level, Mark, General}
+use Rattle.cpu.specs.declared.call.Call.TheVariants.{Abort, Census}
 use Rattle.history.specs.World.{Plain}
 use Rattle.history.specs.History.{Effect, carries, writes, Event, steps, after, after_event, plain_run, drops, drops_event}
 use Rattle.history.specs.History as History

@@ -9,13 +9,13 @@ use Rattle.cpu.specs.Core.{fresh_core, reg_of}
 use Rattle.cpu.specs.Memory.{write_of, ram_after_write}
 use Rattle.cpu.specs.OpLaws as Laws
 use Rattle.cpu.specs.declared.Core.{Core}
-use Rattle.operations.specs.Answers.{StoreAnswer}
-use Rattle.operations.specs.Check.{missed_of, first_of, unencoded}
-use Rattle.operations.specs.Replies.{storing}
-use Rattle.operations.specs.declared.{call.Call.Call, call.Reply.Reply}
+use Rattle.cpu.specs.Answers.{StoreAnswer}
+use Rattle.cpu.specs.Check.{missed_of, first_of, unencoded}
+use Rattle.cpu.specs.Replies.{storing}
+use Rattle.cpu.specs.declared.{call.Call.Call, call.Reply.Reply}
 use Rattle.system.specs.declared.decode.Encoding.{Encoding}
-use Rattle.operations.specs.declared.call.Call.TheVariants.{Store, System}
-use Rattle.operations.specs.declared.call.Reply.TheVariants.{Done, Refused}
+use Rattle.cpu.specs.declared.call.Call.TheVariants.{Store, System}
+use Rattle.cpu.specs.declared.call.Reply.TheVariants.{Done, Refused}
 use Rattle.cpu.specs.System.{zero_of, zero_ram, on_stored, sys_of, sys_by, sys_ram, sys_ram_by}
 use Rattle.cpu.specs.Step.{Stepped, after_store, ends, refused_or, run_of, step_of, ram_of, ram_after}
 use Rattle.history.specs.Instance.{Ram, window_of}

@@ -40,10 +40,10 @@ use Rattle.system.specs.Tlbi.{scope_of, what_of, tlbi_of}
 use Rattle.cpu.specs.Fit.{refit_of}
 use Rattle.cpu.specs.Registers.{with_regs, applied_of, after_register_write, set_level, set_mark}
 use Rattle.cpu.specs.System.{tlbi_core, sys_of}
-use Rattle.operations.specs.Check.{missed_of}
-use Rattle.operations.specs.Replies.{translation}
+use Rattle.cpu.specs.Check.{missed_of}
+use Rattle.cpu.specs.Replies.{translation}
 use Rattle.cpu.specs.Step.{run_of, step_of}
-use Rattle.operations.specs.declared.call.Reply.TheVariants.{Value}
+use Rattle.cpu.specs.declared.call.Reply.TheVariants.{Value}
 use Rattle.history.specs.World.{LeavesEqual, covers, page_walk}
 use Rattle.history.proofs.Lists.{each-head}
 use Rattle.history.specs.History.{carries, writes, Event, steps}

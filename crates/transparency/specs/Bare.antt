@@ -10,13 +10,13 @@ use Rattle.system.specs.declared.{decode.AtForm.AtForm, decode.SysOp.SysOp}
 use Rattle.system.specs.declared.decode.SysOp.TheVariants as Op
 use Rattle.cpu.specs.Bare.{Bare, reg_in, with_privilege, with_general, with_regs, with_par, with_entered}
 use Rattle.cpu.specs.System.{mair_of}
-use Rattle.operations.specs.Check.{missed_of}
+use Rattle.cpu.specs.Check.{missed_of}
 use Rattle.cpu.specs.Step.{refused_or}
 use Rattle.system.specs.declared.decode.Encoding.{Encoding}
-use Rattle.operations.specs.declared.{call.Call.Call, call.Reply.Reply}
-use Rattle.operations.specs.declared.call.Call.TheVariants.{System, Register, Level, Mark, General}
-use Rattle.operations.specs.declared.call.Call.TheVariants.{Abort}
-use Rattle.operations.specs.declared.call.Reply.TheVariants.{Refused, Done, Stopped}
+use Rattle.cpu.specs.declared.{call.Call.Call, call.Reply.Reply}
+use Rattle.cpu.specs.declared.call.Call.TheVariants.{System, Register, Level, Mark, General}
+use Rattle.cpu.specs.declared.call.Call.TheVariants.{Abort}
+use Rattle.cpu.specs.declared.call.Reply.TheVariants.{Refused, Done, Stopped}
 use Rattle.history.specs.Window.{Ram, memory_of}
 use Rattle.sysreg.specs.declared.write.WriteError.TheVariants.{Undefined, NoRegister}
 

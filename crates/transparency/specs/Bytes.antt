@@ -8,7 +8,7 @@ use Rattle.word.specs.Bits.{align_down, wrap}
 use Rattle.tlb.specs.declared.access.Kind.{Kind}
 use Rattle.tlb.specs.declared.access.Kind.TheVariants.{Read, Write}
 use Rattle.cpu.specs.Core.{fresh_core, reg_of}
-use Rattle.operations.specs.Bytes.{byte_in}
+use Rattle.cpu.specs.Bytes.{byte_in}
 use Rattle.cpu.specs.Memory.{translate_of, read_of, write_of, ram_after_write}
 use Rattle.cpu.specs.OwnAddress.{own_answer}
 use Rattle.cpu.specs.ByteMeaning.{OwnByte}

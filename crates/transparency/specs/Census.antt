@@ -8,7 +8,7 @@ use Rattle.census.specs.Laws.{has_rights}
 use Rattle.tlb.specs.declared.access.Kind.{Kind}
 use Rattle.tlb.specs.Answers.{Answer}
 use Rattle.cpu.specs.Bare.{Bare}
-use Rattle.operations.specs.declared.call.Call.TheVariants.{Census}
+use Rattle.cpu.specs.declared.call.Call.TheVariants.{Census}
 use Rattle.cpu.specs.Step.{step_of}
 use Rattle.cpu.specs.Inspect.{counts_after}
 use Rattle.history.specs.World.{need_now, uncached}

@@ -30,8 +30,8 @@ use Rattle.cpu.specs.Bare.{Bare, fresh_bare, bare_of}
 use Rattle.cpu.specs.Core.{fresh_core, bank_now}
 use Rattle.cpu.specs.declared.Core.{Core}
 use Rattle.system.specs.declared.decode.Encoding.{Encoding}
-use Rattle.operations.specs.declared.{call.Call.Call}
-use Rattle.operations.specs.declared.call.Call.TheVariants.{Translate, DataPa, FetchPa, Load, Store, Fetch, System, Register}
+use Rattle.cpu.specs.declared.{call.Call.Call}
+use Rattle.cpu.specs.declared.call.Call.TheVariants.{Translate, DataPa, FetchPa, Load, Store, Fetch, System, Register}
 use Rattle.history.specs.Window.{Ram, memory_of}
 use Rattle.transparency.specs.Steps.{Step, core_run, bare_run, steps_run}
 use Rattle.transparency.specs.Bare.{op_in, operand_in, written_in, ruling_in, if_allowed, bare_step}

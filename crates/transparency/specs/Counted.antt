@@ -13,8 +13,8 @@ use Rattle.tlb.specs.declared.access.Kind.{Kind}
 use Rattle.tlb.specs.declared.Inval.TheVariants.{All, Page, Asid}
 use Rattle.system.specs.declared.decode.SysOp.TheVariants as Op
 use Rattle.system.specs.declared.decode.Encoding.{Encoding}
-use Rattle.operations.specs.declared.{call.Call.Call}
-use Rattle.operations.specs.declared.call.Call.TheVariants.{Translate, DataPa, FetchPa, Fetch, System, Register}
+use Rattle.cpu.specs.declared.{call.Call.Call}
+use Rattle.cpu.specs.declared.call.Call.TheVariants.{Translate, DataPa, FetchPa, Fetch, System, Register}
 use Rattle.history.specs.World.{access_of}
 use Rattle.history.specs.ModelRun.{model_flushed, model_retagged}
 use Rattle.history.specs.Calls.{Lent}

@@ -4,8 +4,8 @@ use Rattle.std.specs.Prelude.{true, false, Bool, [], ◌∷◌, ℕ}
 use Rattle.walk.specs.declared.level.Leaf.{Leaf}
 use Rattle.tlb.specs.Lists.{Each}
 use Rattle.cpu.specs.Bare.{Bare, fresh_bare}
-use Rattle.operations.specs.declared.call.Call.{Call}
-use Rattle.operations.specs.declared.call.Call.TheVariants.{System, Register, Level, General}
+use Rattle.cpu.specs.declared.call.Call.{Call}
+use Rattle.cpu.specs.declared.call.Call.TheVariants.{System, Register, Level, General}
 use Rattle.history.specs.Window.{window_of}
 use Rattle.transparency.specs.Steps.{Step, bare_run}
 use Rattle.transparency.specs.Claim.{Covers, drops_run}

@@ -8,17 +8,17 @@ use Rattle.tlb.specs.Lists.{Each}
 use Rattle.tlb.specs.Asks.{address_of}
 use Rattle.tlb.specs.declared.access.Kind.{Kind}
 use Rattle.tlb.specs.Answers.{Answer}
-use Rattle.operations.specs.Answers.{Placed}
+use Rattle.cpu.specs.Answers.{Placed}
 use Rattle.cpu.specs.Bare.{Bare, fresh_bare, bare_of}
-use Rattle.operations.specs.Place.{next_page, crosses, placed_one, placed_both}
-use Rattle.operations.specs.Ends.{reached_by, load_end, store_end, store_ram_end, fetch_end}
+use Rattle.cpu.specs.Place.{next_page, crosses, placed_one, placed_both}
+use Rattle.cpu.specs.Ends.{reached_by, load_end, store_end, store_ram_end, fetch_end}
 use Rattle.cpu.specs.Memory.{located_now}
 use Rattle.cpu.specs.declared.Core.{Core}
 use Rattle.system.specs.declared.decode.Encoding.{Encoding}
 use Rattle.system.specs.declared.decode.SysOp.TheVariants as Op
-use Rattle.operations.specs.Replies.{translation, reaching, loading, storing, fetching}
+use Rattle.cpu.specs.Replies.{translation, reaching, loading, storing, fetching}
 use Rattle.cpu.specs.Step.{step_of, ram_after}
-use Rattle.operations.specs.declared.call.Call.TheVariants.{Translate, DataPa, FetchPa, Load, Store, Fetch, System}
+use Rattle.cpu.specs.declared.call.Call.TheVariants.{Translate, DataPa, FetchPa, Load, Store, Fetch, System}
 use Rattle.history.specs.World.{regime_now, page_now, on_now, uncached}
 use Rattle.history.specs.History.{Event, Settled}
 use Rattle.history.specs.Invisible.{Tidy}

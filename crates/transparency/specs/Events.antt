@@ -17,9 +17,9 @@ use Rattle.system.specs.declared.decode.SysOp.{SysOp}
 use Rattle.system.specs.declared.decode.SysOp.TheVariants as Op
 use Rattle.cpu.specs.Bare.{Bare}
 use Rattle.system.specs.declared.decode.Encoding.{Encoding}
-use Rattle.operations.specs.declared.{call.Call.Call}
-use Rattle.operations.specs.declared.call.Call.TheVariants.{System, Register, Level, Mark}
-use Rattle.operations.specs.declared.call.Call.TheVariants.{Abort}
+use Rattle.cpu.specs.declared.{call.Call.Call}
+use Rattle.cpu.specs.declared.call.Call.TheVariants.{System, Register, Level, Mark}
+use Rattle.cpu.specs.declared.call.Call.TheVariants.{Abort}
 use Rattle.history.specs.World.{Plain}
 use Rattle.history.specs.History.{Effect, nothing, carries, writes, sets, Step, Event, steps}
 use Rattle.history.specs.Instance.{Ram, real}

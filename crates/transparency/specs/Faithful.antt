@@ -7,7 +7,7 @@ use Rattle.cpu.specs.Bare.{fresh_bare}
 use Rattle.cpu.specs.Core.{fresh_core}
 use Rattle.cpu.specs.declared.Core.{Core}
 use Rattle.cpu.specs.Step.{step_of, ram_after, Stepped}
-use Rattle.operations.specs.declared.call.Call.{Call}
+use Rattle.cpu.specs.declared.call.Call.{Call}
 use Rattle.history.specs.History.{Step, Event, steps, after_event, plain_run, tlb_event, tlb_run, answers}
 use Rattle.history.specs.Invisible.{Tidy, answers_run}
 use Rattle.history.specs.Calls.{Lent, Fed, lent_of, events_run, Shown, shown, FaithfulIn}

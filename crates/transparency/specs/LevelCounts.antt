@@ -12,8 +12,8 @@ use Rattle.tlb.specs.declared.Tlb.{Tlb}
 use Rattle.system.specs.declared.decode.SysOp.{SysOp}
 use Rattle.system.specs.declared.decode.SysOp.TheVariants as Op
 use Rattle.cpu.specs.Bare.{Bare, fresh_bare}
-use Rattle.operations.specs.declared.{call.Call.Call}
-use Rattle.operations.specs.declared.call.Call.TheVariants.{Translate, DataPa, FetchPa, Load, Store, Fetch, System}
+use Rattle.cpu.specs.declared.{call.Call.Call}
+use Rattle.cpu.specs.declared.call.Call.TheVariants.{Translate, DataPa, FetchPa, Load, Store, Fetch, System}
 use Rattle.history.specs.Calls.{Lent}
 use Rattle.history.specs.Instance.{Ram, real}
 use Rattle.history.specs.Tallies.{Made, by_line, by_walk, how_many, at, rust_after, made_run}

@@ -13,7 +13,7 @@ use Rattle.tlb.specs.declared.Tlb.{Tlb}
 use Rattle.cpu.specs.Bare.{fresh_bare}
 use Rattle.cpu.specs.declared.Core.{Core}
 use Rattle.cpu.specs.Step.{step_of}
-use Rattle.operations.specs.declared.call.Call.{Call}
+use Rattle.cpu.specs.declared.call.Call.{Call}
 use Rattle.history.specs.History.{Event}
 use Rattle.history.specs.ModelRun.{model_run, model_answers_run, StandsFor}
 use Rattle.history.specs.Calls.{Lent, events_run}

@@ -11,13 +11,13 @@ use Rattle.tlb.specs.Lists.{Each}
 use Rattle.cpu.specs.Bare.{Bare, fresh_bare, bare_of}
 use Rattle.cpu.specs.Core.{fresh_core}
 use Rattle.cpu.specs.Asks.{placed_from}
-use Rattle.operations.specs.Ends.{load_end, store_end, store_ram_end, fetch_end, reached_by}
+use Rattle.cpu.specs.Ends.{load_end, store_end, store_ram_end, fetch_end, reached_by}
 use Rattle.cpu.specs.declared.Core.{Core}
-use Rattle.operations.specs.Replies.{translation, loading, storing, fetching, reaching}
+use Rattle.cpu.specs.Replies.{translation, loading, storing, fetching, reaching}
 use Rattle.cpu.specs.Step.{step_of, ram_after}
-use Rattle.operations.specs.declared.{call.Call.Call, call.Reply.Reply}
-use Rattle.operations.specs.declared.call.Call.TheVariants.{Translate, DataPa, FetchPa, Load, Store, Fetch, System}
-use Rattle.operations.specs.declared.call.Reply.TheVariants.{Refused, Done}
+use Rattle.cpu.specs.declared.{call.Call.Call, call.Reply.Reply}
+use Rattle.cpu.specs.declared.call.Call.TheVariants.{Translate, DataPa, FetchPa, Load, Store, Fetch, System}
+use Rattle.cpu.specs.declared.call.Reply.TheVariants.{Refused, Done}
 use Rattle.history.specs.Window.{Ram, window_of}
 use Rattle.transparency.specs.Bare.{op_in, operand_in, ruling_in, refusal_of, if_allowed}
 use Rattle.transparency.specs.Claim.{access_in, sized_in, asked, uncached, SettledFor}

@@ -9,11 +9,11 @@ use Rattle.system.specs.declared.decode.SysOp.TheVariants as Op
 use Rattle.cpu.specs.Bare.{Bare, bare_of}
 use Rattle.cpu.specs.declared.Core.{Core}
 use Rattle.cpu.specs.Asks.{first_of}
-use Rattle.operations.specs.Ends.{fetch_end, reached_by}
-use Rattle.operations.specs.Replies.{translation, fetching, reaching}
-use Rattle.operations.specs.declared.{call.Call.Call}
-use Rattle.operations.specs.declared.call.Call.TheVariants.{Translate, DataPa, FetchPa, Load, Store, Fetch, System}
-use Rattle.operations.specs.declared.call.Reply.TheVariants.{Done}
+use Rattle.cpu.specs.Ends.{fetch_end, reached_by}
+use Rattle.cpu.specs.Replies.{translation, fetching, reaching}
+use Rattle.cpu.specs.declared.{call.Call.Call}
+use Rattle.cpu.specs.declared.call.Call.TheVariants.{Translate, DataPa, FetchPa, Load, Store, Fetch, System}
+use Rattle.cpu.specs.declared.call.Reply.TheVariants.{Done}
 use Rattle.history.specs.Instance.{Ram}
 use Rattle.transparency.specs.Bare.{op_in, operand_in, ruling_in, refusal_of, if_allowed}
 use Rattle.transparency.specs.Steps.{Step, zeroed}

@@ -11,8 +11,8 @@ use Rattle.cpu.specs.Bare.{bare_of}
 use Rattle.cpu.specs.Memory.{write_of, ram_after_write}
 use Rattle.cpu.specs.declared.Core.{Core}
 use Rattle.cpu.specs.System.{on_stored}
-use Rattle.operations.specs.declared.call.Call.{Call}
-use Rattle.operations.specs.declared.call.Call.TheVariants.{System}
+use Rattle.cpu.specs.declared.call.Call.{Call}
+use Rattle.cpu.specs.declared.call.Call.TheVariants.{System}
 use Rattle.history.specs.Instance.{Ram, window_of}
 use Rattle.transparency.specs.Bare.{op_in, operand_in, ruling_in, if_allowed}
 

@@ -6,9 +6,9 @@ use Rattle.system.specs.declared.decode.SysOp.{SysOp}
 use Rattle.system.specs.declared.decode.SysOp.TheVariants as Op
 use Rattle.cpu.specs.Bare.{Bare, bare_of}
 use Rattle.cpu.specs.declared.Core.{Core}
-use Rattle.operations.specs.declared.{call.Call.Call, call.Reply.Reply}
-use Rattle.operations.specs.declared.call.Call.TheVariants.{Store, System}
-use Rattle.operations.specs.declared.call.Reply.TheVariants.{Done}
+use Rattle.cpu.specs.declared.{call.Call.Call, call.Reply.Reply}
+use Rattle.cpu.specs.declared.call.Call.TheVariants.{Store, System}
+use Rattle.cpu.specs.declared.call.Reply.TheVariants.{Done}
 use Rattle.cpu.specs.Step.{step_of, ram_after}
 use Rattle.history.specs.Window.{Ram, window_of}
 use Rattle.transparency.specs.Bare.{Ruling, allowed, op_in, operand_in, ruling_in, bare_step}

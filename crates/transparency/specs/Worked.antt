@@ -6,9 +6,9 @@ use Rattle.tlb.specs.Translate.{hint_in}
 use Rattle.tlb.specs.declared.access.Kind.TheVariants.{Read}
 use Rattle.cpu.specs.Bare.{bare_of}
 use Rattle.cpu.specs.Step.{step_of}
-use Rattle.operations.specs.declared.call.Call.{Call}
-use Rattle.operations.specs.declared.call.Call.TheVariants.{Translate, FetchPa, Register, Level, Mark, General, System}
-use Rattle.operations.specs.declared.call.Reply.TheVariants.{Value}
+use Rattle.cpu.specs.declared.call.Call.{Call}
+use Rattle.cpu.specs.declared.call.Call.TheVariants.{Translate, FetchPa, Register, Level, Mark, General, System}
+use Rattle.cpu.specs.declared.call.Reply.TheVariants.{Value}
 use Rattle.history.specs.World.{uncached}
 use Rattle.history.specs.Calls.{Lent}
 use Rattle.history.specs.Instance.{Ram, real}

@@ -1,8 +1,8 @@
 // What an access gets: from a walk made now, and from the core, cache and all.
 use crate::fields::Status;
 use cpu::Core;
+use cpu::call::{Call, Reply};
 use fault::Fault;
-use operations::call::{Call, Reply};
 use std::fmt;
 use tlb::access::Kind;
 use tlb::entry::Entry;

@@ -1,5 +1,5 @@
 use Rattle.std.proofs.Common.{sym, ap, ◌∙◌}
-use Rattle.operations.specs.Check.{number_missed}
+use Rattle.cpu.specs.Check.{number_missed}
 use Rattle.quick.proofs.Checks.{ram-told, ram-refused}
 use Rattle.quick.proofs.fetch.checked.Goals as goal
 

@@ -1,7 +1,7 @@
 use Rattle.std.specs.Prelude.{◌≡◌, ◌≤◌}
 use Rattle.std.proofs.Common.{sym, ap, ◌∙◌, arith}
 use Rattle.word.specs.Ram.{bytes_in}
-use Rattle.operations.specs.Place.{in_page}
+use Rattle.cpu.specs.Place.{in_page}
 use Rattle.quick.proofs.ByHint.{hint-serves}
 use Rattle.quick.proofs.OnePage.{told}
 use Rattle.quick.proofs.load.by_hint.Goals as goal

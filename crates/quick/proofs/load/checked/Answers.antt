@@ -1,5 +1,5 @@
 use Rattle.std.proofs.Common.{sym, ap, ◌∙◌}
-use Rattle.operations.specs.Check.{number_missed}
+use Rattle.cpu.specs.Check.{number_missed}
 use Rattle.quick.proofs.Checks.{refused, load-rows, loaded}
 use Rattle.quick.proofs.load.checked.Goals as goal
 

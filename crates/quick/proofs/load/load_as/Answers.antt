@@ -1,6 +1,6 @@
 use Rattle.std.proofs.Common.{◌<◌, ◌≤◌, ◌-◌, ◌^◌, length, refl, arith}
 use Rattle.word.specs.Ram.{bytes_in}
-use Rattle.operations.specs.declared.check.Check.TheVariants.{Level}
+use Rattle.cpu.specs.declared.check.Check.TheVariants.{Level}
 use Rattle.quick.proofs.Checks.{refused, load-rows, loaded, high-sized, clear-sized, known}
 use Rattle.quick.proofs.load.load_as.Goals as goal
 

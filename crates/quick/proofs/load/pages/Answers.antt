@@ -2,7 +2,7 @@ use Rattle.std.specs.Prelude.{Some}
 use Rattle.std.proofs.Common.{refl, ap, subst}
 use Rattle.word.specs.Ram.{bytes_in}
 use Rattle.word.specs.declared.ram.Width.{Width}
-use Rattle.operations.specs.declared.call.Reply.TheVariants.{Value}
+use Rattle.cpu.specs.declared.call.Reply.TheVariants.{Value}
 use Rattle.cpu.specs.Step.{after_load}
 use Rattle.quick.specs.Says.{OfTwo}
 use Rattle.quick.proofs.ByHint.{tells}

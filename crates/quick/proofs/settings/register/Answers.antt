@@ -2,8 +2,8 @@ use Rattle.std.specs.Prelude.{Err}
 use Rattle.std.proofs.Common.{sym, ap, ◌∙◌}
 use Rattle.sysreg.specs.Write.{WriteAnswer}
 use Rattle.sysreg.specs.declared.write.WriteError.{WriteError}
-use Rattle.operations.specs.Check.{number_missed}
-use Rattle.operations.specs.Replies.{registering}
+use Rattle.cpu.specs.Check.{number_missed}
+use Rattle.cpu.specs.Replies.{registering}
 use Rattle.call_words.specs.Replies.{code_by}
 use Rattle.quick.proofs.Setting.{register-set, register-refused}
 use Rattle.quick.proofs.settings.register.Goals as goal

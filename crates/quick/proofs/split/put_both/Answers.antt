@@ -1,6 +1,6 @@
 use Rattle.std.proofs.Common.{length, sym, ap, ◌∙◌}
 use Rattle.word.specs.Ram.{bytes_in}
-use Rattle.operations.specs.AtOnce.{both_inside, both_stored}
+use Rattle.quick.specs.AtOnce.{both_inside, both_stored}
 use Rattle.quick.proofs.OneStore.{pair-is}
 use Rattle.quick.proofs.split.put_both.Goals as goal
 

@@ -1,21 +1,20 @@
 use Rattle.std.proofs.Common.{◌≡◌, ◌<◌, ◌^◌, ℕ, Bool, List, length, true, Some, sym, ap, ◌∙◌, arith}
 use Rattle.word.specs.Ram.{bytes_in}
 use Rattle.walk.specs.Regime.{regime_of, stage1_on}
-use Rattle.walk.specs.declared.regime.Bank.{Bank}
 use Rattle.tlb.specs.Translate.{hint_in}
 use Rattle.tlb.specs.declared.access.Kind.TheVariants.{Write}
 use Rattle.cpu.specs.Core.{bank_now}
-use Rattle.operations.specs.Place.{next_page, crosses}
-use Rattle.operations.specs.AtOnce.{both_inside, both_stored}
+use Rattle.cpu.specs.Place.{next_page, crosses}
+use Rattle.quick.specs.AtOnce.{both_inside, both_stored}
 use Rattle.quick.proofs.OneStore.{put-two}
 use Rattle.quick.proofs.split.store.Goals as goal
 
 pub returns-in-Some-by_hint : goal.returns-in-Some-by_hint
 returns-in-Some-by_hint c =
     let long : length c.args.ram.now < 2 ^ 64 = omega arith in
-    let on : c.on_at-on.result ≡ stage1_on (bank_now c.args.core.now) (regime_of c.args.core.now.privilege.level) = c.on_at-on.ensures ∙ ap (λ (s : Bank). stage1_on s (regime_of c.args.core.now.privilege.level)) c.bank.ensures in
+    let on : c.stage1_on-on.result ≡ stage1_on (bank_now c.args.core.now) (regime_of c.args.core.now.privilege.level) = c.stage1_on-on.ensures ∙ (λ i. stage1_on (c.bank.ensures i) (c.regime.ensures i)) in
     let k : crosses (stage1_on (bank_now c.args.core.now) (regime_of c.args.core.now.privilege.level)) c.args.va (bytes_in c.args.width) ≡ true =
-    sym (ap (λ (x : Bool). crosses x c.args.va (bytes_in c.args.width)) on) ∙ sym (ap (λ (n : ℕ). crosses c.on_at-on.result c.args.va n) c.bytes.ensures.value) ∙ sym c.crosses.ensures ∙ c.if-crosses.true in
+    sym (ap (λ (x : Bool). crosses x c.args.va (bytes_in c.args.width)) on) ∙ sym (ap (λ (n : ℕ). crosses c.stage1_on-on.result c.args.va n) c.bytes.ensures.value) ∙ sym c.crosses.ensures ∙ c.if-crosses.true in
     let h : hint_in c.args.core.now.privilege c.args.va Write c.args.core.now.tlb ≡ Some c.in-Some.pa = sym c.by_hint.ensures ∙ c.in-Some.is in
     let h2 : hint_in c.args.core.now.privilege (next_page c.args.va) Write c.args.core.now.tlb ≡ Some c.in-Some-by_hint.pa2 =
     sym (ap (λ (x : ℕ). hint_in c.args.core.now.privilege x Write c.args.core.now.tlb) c.next_page-next.ensures) ∙ sym c.by_hint-in-Some.ensures ∙ c.in-Some-by_hint.is in

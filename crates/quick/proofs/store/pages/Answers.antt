@@ -2,7 +2,7 @@ use Rattle.std.specs.Prelude.{true}
 use Rattle.std.proofs.Common.{refl, ap, subst}
 use Rattle.word.specs.Ram.{bytes_in}
 use Rattle.word.specs.declared.ram.Width.{Width}
-use Rattle.operations.specs.declared.call.Reply.TheVariants.{Done}
+use Rattle.cpu.specs.declared.call.Reply.TheVariants.{Done}
 use Rattle.cpu.specs.Step.{after_store}
 use Rattle.quick.specs.Says.{PutTwo}
 use Rattle.quick.proofs.ByHint.{tells}

@@ -1,6 +1,6 @@
 use Rattle.std.proofs.Common.{◌<◌, ◌≤◌, ◌-◌, ◌^◌, length, refl, arith}
 use Rattle.word.specs.Ram.{bytes_in}
-use Rattle.operations.specs.declared.check.Check.TheVariants.{Level}
+use Rattle.cpu.specs.declared.check.Check.TheVariants.{Level}
 use Rattle.quick.proofs.Checks.{refused, refused-ram, store-rows, stored, stored-ram, high-sized, clear-sized, known}
 use Rattle.quick.proofs.store.store_as.Goals as goal
 

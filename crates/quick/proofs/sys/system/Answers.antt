@@ -1,5 +1,5 @@
 use Rattle.std.proofs.Common.{sym, ap, ◌∙◌}
-use Rattle.operations.specs.Check.{number_missed}
+use Rattle.cpu.specs.Check.{number_missed}
 use Rattle.quick.proofs.Checks.{refused, refused-ram, system-told, system-ram}
 use Rattle.quick.proofs.sys.system.Goals as goal
 

@@ -1,0 +1,88 @@
+-- The numbers 1 to 7: docs/SCOPE.md, "Where each answer is given".
+use Rattle.std.specs.Prelude.{if◌then◌else◌, ℕ, ◌+◌, ◌*◌, ◌^◌, Bool, true, false, not, ◌||◌, List, [], ◌∷◌, nat_lt, Option, Some, None, Result, Ok, Err}
+use Rattle.word.specs.Bits.{align_down}
+use Rattle.word.specs.Ram.{width_of}
+use Rattle.sysreg.specs.Encoding.{register_at}
+use Rattle.sysreg.specs.Write.{names}
+use Rattle.system.specs.declared.decode.Encoding.{Encoding}
+use Rattle.cpu.specs.declared.{call.Call.Call, check.Check.Check}
+use Rattle.cpu.specs.declared.call.Call.TheVariants.{Translate, DataPa, FetchPa, Load, Store, Fetch, System, Register, Level, Mark, General}
+use Rattle.cpu.specs.declared.call.Call.TheVariants.{Abort, Census}
+use Rattle.word.specs.declared.ram.Width.{Width}
+
+-- base plus length is above 2^64
+abbrev pub passes : ℕ → ℕ → Bool
+passes base len = nat_lt (2 ^ 64) (base + len)
+
+-- a size of 1, 2, 4 or 8
+abbrev pub is_width : Option Width → Bool
+is_width (Some w) = true
+is_width None = false
+
+abbrev pub known : ℕ → Bool
+known size = is_width (width_of size)
+
+-- op1 or op2 above 7, CRn or CRm above 15
+abbrev pub unencoded : Encoding → Bool
+unencoded e = (nat_lt 7 e.op1 || nat_lt 7 e.op2) || (nat_lt 15 e.crn || nat_lt 15 e.crm)
+
+-- a key that is banked or PAR
+abbrev pub kept : ℕ → Bool
+kept key = names (register_at key)
+
+-- "more than 65,536 pages or a range that passes 2^64"; a range that ends there does not pass it
+abbrev pub overlong : ℕ → ℕ → Bool
+overlong first pages = nat_lt 65536 pages || nat_lt (2 ^ 64) (align_down first 12 + pages * 4096)
+
+-- a row of the table: its condition and its number
+abbrev pub Row : Type 0
+Row = Bool × ℕ
+
+-- the rows of a call that is handed RAM, and of one that has a size besides
+abbrev pub ram_rows : ℕ → ℕ → ℕ → List Row
+ram_rows level base len = (nat_lt 3 level, 1) ∷ (passes base len, 2) ∷ []
+
+abbrev pub sized_rows : ℕ → ℕ → ℕ → ℕ → List Row
+sized_rows level base len size = (nat_lt 3 level, 1) ∷ (passes base len, 2) ∷ (not (known size), 3) ∷ []
+
+-- each call's rows of the table, from top to bottom, by the present level and the window;
+-- translations, load, store, fetch, every system operation and the census are handed RAM
+abbrev pub checks_of : ℕ → ℕ → ℕ → Call → List Row
+checks_of level base len (Translate kind va) = ram_rows level base len
+checks_of level base len (DataPa va) = ram_rows level base len
+checks_of level base len (FetchPa va) = ram_rows level base len
+checks_of level base len (Load va size) = sized_rows level base len size
+checks_of level base len (Store va size value) = sized_rows level base len size
+checks_of level base len (Fetch va) = ram_rows level base len
+checks_of level base len (System e) =
+    (nat_lt 3 level, 1) ∷ (passes base len, 2) ∷ (unencoded e, 4) ∷ (nat_lt 31 e.rt, 5) ∷ []
+checks_of level base len (Register key value) = (nat_lt 3 level, 1) ∷ (not (kept key), 6) ∷ []
+checks_of level base len (Level requested) = (nat_lt 3 level || nat_lt 3 requested, 1) ∷ []
+checks_of level base len (Mark mark) = (nat_lt 3 level, 1) ∷ []
+checks_of level base len (General number value) = (nat_lt 3 level, 1) ∷ (nat_lt 31 number, 5) ∷ []
+checks_of level base len (Abort e) = (nat_lt 3 level, 1) ∷ []
+checks_of level base len (Census first pages) = (nat_lt 3 level, 1) ∷ (passes base len, 2) ∷ (overlong first pages, 7) ∷ []
+
+-- the number of the first row whose condition holds, or 0
+abbrev pub first_of : List Row → ℕ
+first_of [] = 0
+first_of (row ∷ rows) = if row.0 then row.1 else first_of rows
+
+-- the number of the first check that a call misses; 0 where it misses none
+unfoldable pub missed_of : ℕ → ℕ → ℕ → Call → ℕ
+missed_of level base len call = first_of (checks_of level base len call)
+
+-- the number of a check
+abbrev pub number_of : Check → ℕ
+number_of Check.Level = 1
+number_of Check.Window = 2
+number_of Check.Size = 3
+number_of Check.Encoding = 4
+number_of Check.General = 5
+number_of Check.Key = 6
+number_of Check.Pages = 7
+
+-- the number of the check that is missed; 0 where none is
+abbrev pub number_missed : {A : Type 0} → Result A Check → ℕ
+number_missed (Ok x) = 0
+number_missed (Err check) = number_of check
