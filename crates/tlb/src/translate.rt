@@ -36,7 +36,7 @@ impl Tlb {
         }
     }
 
-    // The answer where no walk is needed: with stage 1 off the address itself, or by the entry of its page. RAM is read
+    // The answer where no walk is needed: with stage 1 off by the address alone, or by the entry of its page. RAM is read
     // by no code here.
     #[inline(always)]
     #[tactic(auto, unfolding(crate::specs::Translate::miss_in))]
@@ -45,10 +45,10 @@ impl Tlb {
         ensures after { AfterReady (asked a (word_at base ram.now 8)) self.old result self.new }
     {
         let regime = Regime::of_level(a.privilege.level);
-        if !a.bank.stage1_on(regime) {
-            return Some(Ok(a.va));
-        }
         let va = a.bank.untag(regime, a.va);
+        if !a.bank.stage1_on(regime) {
+            return Some(access::flat(va));
+        }
         if let Some(e) = self.get(access::tag_of(regime, va)) {
             self.count_hit(a.privilege.level);
             return Some(e.judge(a.privilege.is_user(regime, a.kind), a.kind, a.va));
