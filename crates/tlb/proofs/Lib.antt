@@ -1,6 +1,7 @@
 -- The cache beside the plain model: each operation, the counters, translations, runs; and worked runs, computed.
 pub mod Refines
 pub mod Levels
+pub mod FlatLaws
 pub mod Misses
 pub mod Translations
 pub mod EveryRun

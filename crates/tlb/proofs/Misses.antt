@@ -34,7 +34,7 @@ tally-well t i n s =
     }
 
 -- the code's test of a flat address is the model's
-flat-is : (u : ℕ) → flat_answer u ≡ flat u
+pub flat-is : (u : ℕ) → flat_answer u ≡ flat u
 flat-is u = go (nat_lt u (2 ^ 44)) refl
   where
     go : (b : Bool) → nat_lt u (2 ^ 44) ≡ b → flat_answer u ≡ flat u
