@@ -1,19 +1,33 @@
 -- Each place of a census counts what its name says, every page is counted once, and adjoining ranges add up.
-use Rattle.std.specs.Prelude.{◌≡◌, ℕ, ◌+◌, ◌*◌, ◌/◌, ◌<◌, true, false, ◌==◌, ◌≢◌, nat_eq, refl, Option, Ok, Err}
+use Rattle.std.specs.Prelude.{◌≡◌, ℕ, zero, suc, ◌+◌, ◌*◌, ◌/◌, ◌<◌, Bool, true, false, not, ◌==◌, ◌≢◌, nat_eq, is_some, refl, Option, Some, None, Ok, Err}
 use Rattle.std.proofs.Common.{sym, ap, ap₂, subst, ◌∙◌, ⊎_elim, arith, ne_eqb}
-use Rattle.word.specs.Bits.{align_down, wrap}
+use Rattle.word.specs.Bits.{align_down, wrap, flag}
 use Rattle.walk.specs.Regime.{stage1_on}
 use Rattle.walk.specs.Table.{Fault as Kind, address_size, translation, access_flag, external_abort, status_of}
 use Rattle.walk.specs.WalkBounds.{SoundFresh}
+use Rattle.walk.specs.Tag.{untagged}
+use Rattle.walk.specs.Flat.{flat_of, flat_by}
+use Rattle.walk.specs.Fresh.{flat_end}
+use Rattle.walk.proofs.FlatLaws.{flat-is}
 use Rattle.walk.proofs.FreshLaws.{fresh_on, fresh-off}
 use Rattle.walk.proofs.FreshLaws.{answer-sound}
 use Rattle.walk.specs.WalkBounds.{Status, Levelled}
 use Rattle.walk.proofs.WalkBounds.{status-small}
 use Rattle.walk.specs.declared.{regime.Regime.Regime, regime.Bank.Bank, fresh.Fresh.Fresh}
 use Rattle.walk.specs.declared.fresh.Fresh.TheVariants.{Flat, Ended}
-use Rattle.census.specs.Tally.{how_many, total, many-same, many-none, many-all, many-joins, shift-eqb, adds-up, at_place}
+use Rattle.census.specs.Tally.{how_many, total, many-same, many-none, many-joins, shift-eqb, adds-up, at_place}
 use Rattle.census.specs.Count.{place_of, page_at, place_at, census_of}
 use Rattle.census.specs.Laws.{faults_with, has_rights, is_flat, NoStatus, end_at, census_count}
+
+-- each number is of one of two kinds
+many-either : (p q : ℕ → Bool) (n : ℕ) → ((i : ℕ) → q i ≡ not (p i)) → how_many p n + how_many q n ≡ n
+unfolding how_many
+many-either p q zero h = refl
+many-either p q (suc n) h = rw (h n) (go (p n) (how_many p n) (how_many q n) (many-either p q n h))
+  where
+    go : (b : Bool) (x y : ℕ) → x + y ≡ n → x + flag b 1 + (y + flag (not b) 1) ≡ suc n
+    go true x y e = omega arith
+    go false x y e = omega arith
 
 -- every fresh answer has a place
 pub place-small : (x : Fresh) → SoundFresh x → place_of x < 129
@@ -78,14 +92,41 @@ module _ (s : Bank) (r : Regime) (memory : ℕ → Option ℕ) (first : ℕ) whe
       here (Ended (Ok leaf)) sound = ne_eqb _ status (λ e. omega arith)
       here (Flat pa) sound = ne_eqb 128 status (λ e. omega arith)
 
-  -- stage 1 off: every page is flat; on: none is
-  pub off-flat : (pages : ℕ) → stage1_on s r ≡ false → census_count s r memory first pages 128 ≡ pages
-  off-flat pages off = flat-count pages ∙ many-all _ pages (λ i. ap is_flat (fresh-off s r (page_at first i) memory off))
+  -- stage 1 off: every page is flat or too large; on: none is flat
+  abbrev flat_at : ℕ → Option ℕ
+  flat_at i = flat_by (untagged s.tcr r (page_at first i))
 
-  pub off-others : (pages j : ℕ) → stage1_on s r ≡ false → j < 128 → census_count s r memory first pages j ≡ 0
-  off-others pages j off h =
-      count_at pages j (omega arith)
-      ∙ many-none _ pages (λ i. ap (λ (x : Fresh). nat_eq (place_of x) j) (fresh-off s r (page_at first i) memory off) ∙ ne_eqb 128 j (λ e. omega arith))
+  off-at : (pages j : ℕ) → stage1_on s r ≡ false → j < 129
+      → census_count s r memory first pages j ≡ how_many (λ i. nat_eq (place_of (flat_end (flat_at i))) j) pages
+  off-at pages j off h =
+      count_at pages j h ∙ many-same _ _ pages (λ i. ap (λ (x : Fresh). nat_eq (place_of x) j) (fresh-off s r (page_at first i) memory off))
+
+  pub off-places : (pages : ℕ) → stage1_on s r ≡ false → census_count s r memory first pages 0 + census_count s r memory first pages 128 ≡ pages
+  off-places pages off =
+      ap₂ (λ (a b : ℕ). a + b) (off-at pages 0 off (omega arith)) (off-at pages 128 off (omega arith))
+      ∙ many-either _ _ pages (λ i. other (flat_at i))
+    where
+      other : (o : Option ℕ) → (place_of (flat_end o) == 128) ≡ not (place_of (flat_end o) == 0)
+      other (Some pa) = refl
+      other None = refl
+
+  pub off-others : (pages j : ℕ) → stage1_on s r ≡ false → 0 < j → j < 128 → census_count s r memory first pages j ≡ 0
+  off-others pages j off l h = off-at pages j off (omega arith) ∙ many-none _ pages (λ i. neither (flat_at i))
+    where
+      neither : (o : Option ℕ) → (place_of (flat_end o) == j) ≡ false
+      neither (Some pa) = ne_eqb 128 j (λ e. omega arith)
+      neither None = ne_eqb 0 j (λ e. omega arith)
+
+  pub off-flat : (pages : ℕ) → stage1_on s r ≡ false
+      → census_count s r memory first pages 128 ≡ how_many (λ i. is_some (flat_of s.tcr r (page_at first i))) pages
+  off-flat pages off =
+      flat-count pages
+      ∙ many-same _ _ pages (λ i. ap is_flat (fresh-off s r (page_at first i) memory off) ∙ some (flat_at i)
+      ∙ ap is_some (sym (flat-is s.tcr r (page_at first i) (omega arith))))
+    where
+      some : (o : Option ℕ) → is_flat (flat_end o) ≡ is_some o
+      some (Some pa) = refl
+      some None = refl
 
   pub on-none-flat : (pages : ℕ) → stage1_on s r ≡ true → census_count s r memory first pages 128 ≡ 0
   on-none-flat pages on = flat-count pages ∙ many-none _ pages (λ i. ap is_flat (fresh_on s r (page_at first i) memory on))

@@ -1,5 +1,5 @@
 -- A leaf has one of the fourteen permission bytes, and no page is counted under another.
-use Rattle.std.specs.Prelude.{if◌then◌else◌, ◌≡◌, ℕ, ◌+◌, ◌<◌, Bool, true, false, ◌&&◌, ◌==◌, refl, Option, Ok, Err}
+use Rattle.std.specs.Prelude.{if◌then◌else◌, ◌≡◌, ℕ, ◌+◌, ◌<◌, Bool, true, false, ◌&&◌, ◌==◌, refl, Option, Some, None, Ok, Err}
 use Rattle.std.proofs.Common.{sym, ap, ◌∙◌, arith, ne_eqb}
 use Rattle.word.specs.Bits.{flag}
 use Rattle.word.proofs.BitLaws.{both}
@@ -8,7 +8,8 @@ use Rattle.walk.specs.Tag.{untagged}
 use Rattle.walk.specs.Table.{Result, mapped, faults, table_walk}
 use Rattle.walk.specs.Permission.{permission_byte}
 use Rattle.walk.specs.Walk.{walked_of, walk_of}
-use Rattle.walk.specs.Fresh.{fresh_of}
+use Rattle.walk.specs.Flat.{flat_by}
+use Rattle.walk.specs.Fresh.{flat_end, fresh_of}
 use Rattle.walk.specs.declared.{regime.Regime.Regime, regime.Bank.Bank, rights.Permissions.Permissions}
 use Rattle.walk.specs.declared.fresh.Fresh.TheVariants.{Flat, Ended}
 use Rattle.walk.specs.WalkBounds.{SoundFresh}
@@ -74,13 +75,17 @@ abbrev PossibleFresh : Fresh → Type 0
 PossibleFresh (Ended w) = Possible w
 PossibleFresh (Flat pa) = Unit {0}
 
+flat-possible : (o : Option ℕ) → PossibleFresh (flat_end o)
+flat-possible (Some pa) = tt
+flat-possible None = tt
+
 fresh-possible : (s : Bank) (r : Regime) (va : ℕ) (memory : ℕ → Option ℕ) → PossibleFresh (fresh_of s r va memory)
 unfolding fresh_of
 fresh-possible s r va memory = go (stage1_on s r)
   where
-    go : (b : Bool) → PossibleFresh (if b then Ended (walk_of s r (untagged s.tcr r va) memory) else Flat va)
+    go : (b : Bool) → PossibleFresh (if b then Ended (walk_of s r (untagged s.tcr r va) memory) else flat_end (flat_by (untagged s.tcr r va)))
     go true = walk-possible s r (untagged s.tcr r va) memory
-    go false = tt
+    go false = flat-possible (flat_by (untagged s.tcr r va))
 
 pub no-other-rights : (s : Bank) (r : Regime) (memory : ℕ → Option ℕ) (first pages perms : ℕ) → perms < 64 → among perms possible ≡ false
     → census_count s r memory first pages (64 + perms) ≡ 0

@@ -28,7 +28,8 @@ counted sctlr tcr first pages place =
 --   TBI0 set, TBI1 clear: a page whose tag is kept, then one whose tag is dropped and which is address 0
 --   TBI1 set, TBI0 clear: a page whose tag is dropped, then one whose tag is kept and which no range holds
 --   the last page of all, by an address within it
---   stage 1 off; no page
+--   stage 1 off: three pages; the last below 2^44 and the next; a tag that TBI0 drops, one that it does not
+--   no page
 abbrev pub WorkedPlaces : Type 0
 WorkedPlaces =
     (counted 1 25 0x3FFFF123 2 0x05
@@ -41,9 +42,13 @@ WorkedPlaces =
     ∷ counted 1 (25 + 2 ^ 38) 0x12FFFFFFFFFFF000 2 0x04
     ∷ counted 1 25 0xFFFFFFFFFFFFFFFF 1 0x14
     ∷ counted 0 25 0x3FFFF123 3 128
+    ∷ counted 0 25 0xFFFFFFFF123 2 128
+    ∷ counted 0 25 0xFFFFFFFF123 2 0x00
+    ∷ counted 0 (25 + 2 ^ 37) 0x5A00000000001000 1 128
+    ∷ counted 0 25 0x5A00000000001000 1 0x00
     ∷ counted 1 25 0x3FFFF123 0 0x05
     ∷ [])
-    ≡ (1 ∷ 1 ∷ 1 ∷ 1 ∷ 1 ∷ 1 ∷ 1 ∷ 1 ∷ 1 ∷ 3 ∷ 0 ∷ [])
+    ≡ (1 ∷ 1 ∷ 1 ∷ 1 ∷ 1 ∷ 1 ∷ 1 ∷ 1 ∷ 1 ∷ 3 ∷ 1 ∷ 1 ∷ 1 ∷ 1 ∷ 0 ∷ [])
 
 pub worked-places : WorkedPlaces
 unfolding counted registers census_of table how_many fresh_of walk_of table_walk walk_range walk_from lookup_next level_next leaf_result leaf_translation

@@ -1,11 +1,12 @@
 // What holds of every census. Each function computes nothing: its contract is the theorem.
-ghost use Rattle.std.specs.Prelude.{◌≡◌, ℕ, ◌+◌, ◌*◌, ◌/◌, ◌<◌, Bool, true, false, Option};
+ghost use Rattle.std.specs.Prelude.{◌≡◌, ℕ, ◌+◌, ◌*◌, ◌/◌, ◌<◌, Bool, true, false, is_some, Option};
 ghost use Rattle.word.specs.Bits.{wrap};
 ghost use Rattle.walk.specs.Regime.{stage1_on};
+ghost use Rattle.walk.specs.Flat.{flat_of};
 ghost use Rattle.walk.specs.declared.regime.Regime.{Regime};
 ghost use Rattle.walk.specs.declared.regime.Bank.{Bank};
 ghost use Rattle.census.specs.Tally.{how_many, total};
-ghost use Rattle.census.specs.Count.{census_of};
+ghost use Rattle.census.specs.Count.{page_at, census_of};
 ghost use Rattle.census.specs.Laws.{faults_with, has_rights, is_flat, NoStatus, census_count, EachCensus};
 ghost use Rattle.census.specs.Rights.{among, possible};
 ghost use Rattle.census.specs.Cases.{WorkedPlaces, WorkedLevels};
@@ -34,16 +35,21 @@ pub fn sums_of_counts()
 {}
 
 // Which places stay 0: the statuses that no walk ends at, all but fourteen permission bytes, and with stage 1 off every
-// place but that of flat pages, which is 0 with stage 1 on.
+// place but that of flat pages, those that the manual's rule gives an address, and status 0x00, the others. With stage 1
+// on no page is flat.
 pub fn empty_places()
     ensures no_other_status { EachCensus (λ count end pages. (status : ℕ) → status < 64
         → NoStatus status → count status ≡ 0) }
     ensures no_other_rights { EachCensus (λ count end pages. (perms : ℕ) → perms < 64
         → among perms possible ≡ false → count (64 + perms) ≡ 0) }
-    ensures off_all_flat { (s : Bank) (r : Regime) (memory : ℕ → Option ℕ) (first pages : ℕ)
-        → stage1_on s r ≡ false → census_count s r memory first pages 128 ≡ pages }
+    ensures off_two_places { (s : Bank) (r : Regime) (memory : ℕ → Option ℕ) (first pages : ℕ)
+        → stage1_on s r ≡ false
+        → census_count s r memory first pages 0 + census_count s r memory first pages 128 ≡ pages }
     ensures off_none_else { (s : Bank) (r : Regime) (memory : ℕ → Option ℕ) (first pages j : ℕ)
-        → stage1_on s r ≡ false → j < 128 → census_count s r memory first pages j ≡ 0 }
+        → stage1_on s r ≡ false → 0 < j → j < 128 → census_count s r memory first pages j ≡ 0 }
+    ensures off_flat { (s : Bank) (r : Regime) (memory : ℕ → Option ℕ) (first pages : ℕ)
+        → stage1_on s r ≡ false → census_count s r memory first pages 128
+        ≡ how_many (λ i. is_some (flat_of s.tcr r (page_at first i))) pages }
     ensures on_none_flat { (s : Bank) (r : Regime) (memory : ℕ → Option ℕ) (first pages : ℕ)
         → stage1_on s r ≡ true → census_count s r memory first pages 128 ≡ 0 }
 {}

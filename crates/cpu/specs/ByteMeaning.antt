@@ -1,7 +1,7 @@
 -- What a load answers and a store leaves, byte by byte, each byte by its own address: byte i of an access to va stands
 -- at the virtual address wrap (va + i). With this `Pages`, `byte_at`, `in_page` and `next_page` need not be believed.
 use Rattle.std.specs.Prelude.{if◌then◌else◌, ◌≡◌, ℕ, zero, suc, ◌+◌, ◌-◌, ◌*◌, ◌/◌, ◌%◌, ◌^◌, ◌<◌, ◌≤◌, Bool, true, false, List, length, ◌≢◌, nat_lt}
-use Rattle.std.specs.Prelude.{slice_index, Ok, Err}
+use Rattle.std.specs.Prelude.{slice_index, Option, Ok, Err}
 use Rattle.std.proofs.Math.Path.{refl, ap}
 use Rattle.std.proofs.Common.{sym, ◌∙◌, mod-eq_of_lt, div-one, le-leb}
 use Rattle.std.proofs.Math.Nat.{mod-mod, zero-add}
@@ -17,8 +17,10 @@ use Rattle.cpu.specs.PlaceLaws.{all-inside}
 use Rattle.cpu.specs.Bytes.{byte_in, split_value, split_stored, value_at, load_of, store_ram}
 use Rattle.cpu.specs.BytesLaws.{address_in, stored-length, split-length, split-leaves}
 use Rattle.cpu.specs.Ends.{load_end, store_end, store_ram_end}
-use Rattle.cpu.specs.Memory.{located_now, read_of, write_of, ram_after_write}
-use Rattle.cpu.specs.OpLaws.{write-leaves}
+use Rattle.cpu.specs.Core.{after_access}
+use Rattle.cpu.specs.Translations.{located_of}
+use Rattle.cpu.specs.Memory.{stepped_now, located_now, translate_of, read_of, write_of, ram_after_write}
+use Rattle.cpu.specs.OpLaws.{on_now, write-leaves}
 use Rattle.cpu.specs.declared.Core.{Core}
 use Rattle.cpu.specs.declared.{place.Pages.Pages, place.Place.Place}
 use Rattle.cpu.specs.declared.place.Place.TheVariants.{Whole, Split}
@@ -272,3 +274,47 @@ store-others c base ram va n v k ready h none =
     let window : base + length ram ≤ 2 ^ 64 = ready.window in
     let fits : wrap (base + k) ≡ base + k = mod-eq_of_lt (omega arith) in
     none i w.pa l w.answer (w.there ∙ ap wrap (sym q) ∙ fits))
+
+-- WITH STAGE 1 OFF an access of n bytes is one translation, of its first byte, and lies whole from there on, also past 2^44
+
+module _ (c : Core) (memory : ℕ → Option ℕ) (va n pa : ℕ) (kind : Kind) where
+  flat-placed : on_now c ≡ false → (translate_of c memory va kind).answer ≡ Ok pa → (located_now c memory va n kind).placed ≡ Ok (Whole pa)
+  unfolding translate_of stepped_now located_now located_of after_access
+  flat-placed off e = rw (off, e)
+
+flat-verdict : (base len n pa : ℕ) → within base len n pa ≡ true → verdict_of base len (Whole pa) n ≡ Ok tt
+unfolding verdict_of
+flat-verdict base len n pa h = rw h
+
+abbrev pub LoadsFlatBytes : Type 0
+LoadsFlatBytes =
+    (c : Core) (base : ℕ) (ram : List ℕ) (va n pa : ℕ) → on_now c ≡ false → base + length ram ≤ 2 ^ 64 → ((k : ℕ) → slice_index ram k < 256)
+    → (translate_of c (word_at base ram 8) va Read).answer ≡ Ok pa → within base (length ram) n pa ≡ true
+    → (v : ℕ) × ((read_of c base ram va n).answer ≡ Ok v) × ((i : ℕ) → i < n → v / 256 ^ i % 256 ≡ byte_in base ram (pa + i))
+
+pub load-flat : LoadsFlatBytes
+unfolding read_of load_end load_of
+load-flat c base ram va n pa off room small e inside =
+    let d = flat-verdict base (length ram) n pa inside in (
+      value_at base ram (Whole pa) n,
+      rw (flat-placed c (word_at base ram 8) va n pa Read off e, d),
+      λ i h. value-byte base ram n i room h small (Whole pa) d ∙ ap (byte_in base ram) (whole-at base ram n i room h pa d),
+    )
+
+abbrev pub StoresFlatBytes : Type 0
+StoresFlatBytes =
+    (c : Core) (base : ℕ) (ram : List ℕ) (va n v pa : ℕ) → on_now c ≡ false → base + length ram ≤ 2 ^ 64
+    → (translate_of c (word_at base ram 8) va Write).answer ≡ Ok pa → within base (length ram) n pa ≡ true
+    → ((write_of c base ram va n).answer ≡ Ok tt)
+    × ((i : ℕ) → i < n → byte_in base (ram_after_write c base ram va n v) (pa + i) ≡ v / 256 ^ i % 256)
+
+pub store-flat : StoresFlatBytes
+unfolding write_of store_end ram_after_write store_ram_end
+store-flat c base ram va n v pa off room e inside =
+    let d = flat-verdict base (length ram) n pa inside in
+    let at : (i : ℕ) → i < n → wrap (pa + i) ≡ pa + i = λ i h. whole-at base ram n i room h pa d in
+    let place = flat-placed c (word_at base ram 8) va n pa Write off e in (
+      rw (place, d),
+      λ i h. rw (place) (ap (byte_in base (store_ram base ram (Whole pa) n v)) (sym (at i h))
+          ∙ store-digit base ram n i room h v (Whole pa) d (λ j a b q. let x = at i h in let y = at j b in omega arith)),
+    )

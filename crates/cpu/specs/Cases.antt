@@ -1,5 +1,6 @@
--- The thirteen worked cases of docs/SCOPE.md and the last address in range, as one computed statement about calls on a core with an empty cache.
-use Rattle.std.specs.Prelude.{◌≡◌, ℕ, ◌^◌, true, false, [], ◌∷◌, replicate, slice_index}
+-- The thirteen worked cases of docs/SCOPE.md and the last address in range, as one computed statement about calls on a core with an empty cache; and those
+-- of stage 1 off.
+use Rattle.std.specs.Prelude.{◌≡◌, ℕ, ◌+◌, ◌^◌, true, false, [], ◌∷◌, replicate, slice_index}
 use Rattle.std.specs.Prelude.{refl}
 use Rattle.word.specs.Ram.{word_at, little_endian, bytes_of}
 use Rattle.fault.specs.First.{first}
@@ -23,9 +24,13 @@ use Rattle.exception.specs.Pstate.{fresh_flags, spsr_of}
 use Rattle.exception.specs.Route.{routed_to}
 use Rattle.exception.specs.Syndrome.{syndrome_of}
 use Rattle.exception.specs.Abort.{data_abort_at}
+use Rattle.exception.specs.declared.kind.Stop.{Stop}
 use Rattle.cpu.specs.Core.{reg_of, after_access}
-use Rattle.cpu.specs.Translations.{translate_in as translation_of}
-use Rattle.cpu.specs.Memory.{stepped_now, translate_of}
+use Rattle.cpu.specs.Translations.{translate_in as translation_of, located_of}
+use Rattle.cpu.specs.Memory.{stepped_now, translate_of, located_now, read_of}
+use Rattle.cpu.specs.Ends.{load_end}
+use Rattle.cpu.specs.Bytes.{load_of}
+use Rattle.cpu.specs.Place.{verdict_of}
 use Rattle.cpu.specs.declared.Core.{Core}
 use Rattle.system.specs.Decode.{named, decode_of}
 use Rattle.walk.specs.Fresh.{fresh_of}
@@ -35,8 +40,8 @@ use Rattle.cpu.specs.System.{with_par, at_of, sys_of}
 use Rattle.cpu.specs.Check.{missed_of}
 use Rattle.cpu.specs.Step.{run_of, step_of}
 use Rattle.cpu.specs.declared.{call.Call.Call, call.Reply.Reply}
-use Rattle.cpu.specs.declared.call.Call.TheVariants.{Translate, System, Abort}
-use Rattle.cpu.specs.declared.call.Reply.TheVariants.{Value, Fault}
+use Rattle.cpu.specs.declared.call.Call.TheVariants.{Translate, Load, System, Abort}
+use Rattle.cpu.specs.declared.call.Reply.TheVariants.{Value, Fault, Stopped}
 use Rattle.cpu.specs.Step.{Stepped}
 
 -- a core at a level with SCTLR_EL1.M set, TCR_EL1 = 25 and TTBR0_EL1 as given, other registers zero, the address in X0, and an empty cache
@@ -125,3 +130,84 @@ unfolding row elsewhere par esr at called step_of run_of missed_of translate_of 
     no_hints place_of get_of put_of miss_in walked_in walk_of table_walk walk_range walk_from lookup_next level_next leaf_result
     leaf_translation leaf_permissions table_next descaddr range_of params_of pa_size untagged word_at little_endian bytes_of
 proved-cases = refl
+
+-- WITH STAGE 1 OFF, in the regime of each level
+
+-- a core at a level, TCR_ELx of each regime as given, stage 1 off, the address in X0
+pub off : ℕ → ℕ → ℕ → Core
+unfolding at
+off level tcr x0 =
+    record (at level 0) {
+      x = x0 ∷ replicate 30 0;
+      control = record {
+        sctlr = levels 0 0 0;
+        tcr = levels tcr tcr tcr;
+        ttbr0 = levels 0 0 0;
+        ttbr1_el1 = 0;
+        scr_el3 = 0;
+        hcr_el2 = 0;
+      };
+    }
+
+-- where a read goes
+pub flat : ℕ → ℕ → ℕ → Reply
+unfolding off called
+flat level tcr va = (called (off level tcr 0) 0x1000 0x80000401 (Translate Read va)).reply
+
+-- a load of eight bytes, where the word stands at 0x1000
+pub flat_load : ℕ → ℕ → ℕ → Reply
+unfolding off called
+flat_load level tcr va = (called (off level tcr 0) 0x1000 0x80000401 (Load va 8)).reply
+
+-- PAR_EL1 after AT S1E1R of X0 at EL1
+pub flat_par : ℕ → ℕ → Reply
+unfolding off called
+flat_par tcr x0 = Value (called (off 1 tcr x0) 0x1000 0 (System (record { op1 = 0; crn = 7; crm = 8; op2 = 0; rt = 0 }))).core.sys.par_el1
+
+-- TBI0 and TBI, and TBI1
+abbrev tbi : ℕ
+tbi = 2 ^ 37 + 2 ^ 20
+
+abbrev tbi1 : ℕ
+tbi1 = 2 ^ 38
+
+-- a load's data abort of status 0x00
+abbrev too_large : ℕ → Reply
+too_large va = Stopped (Stop.Exception (data_abort_at va false (first 0x00)))
+
+abbrev pub FlatCases : Type 0
+FlatCases =
+    (flat 1 0 0x0FFFFFFFFFFF
+    ∷ flat 1 0 0x100000000000
+    ∷ flat_load 1 0 0x100000000000
+    ∷ flat_par 0 0x0FFFFFFFF000
+    ∷ flat_par 0 0x100000000000
+    ∷ flat_par tbi 0x5A00000000001000
+    ∷ flat_load 0 tbi 0x5A00000000001000
+    ∷ flat_load 1 tbi 0x5A00000000001000
+    ∷ flat_load 2 tbi 0x5A00000000001000
+    ∷ flat_load 3 tbi 0x5A00000000001000
+    ∷ flat_load 3 0 0x5A00000000001000
+    ∷ flat 1 tbi1 0xFF80000000001000
+    ∷ flat 3 tbi 0xFF80000000001000
+    ∷ [])
+    ≡ (Value 0x0FFFFFFFFFFF
+    ∷ Fault 0x100000000000 (first 0x00)
+    ∷ too_large 0x100000000000
+    ∷ Value 0x0FFFFFFFF800
+    ∷ Value 0x801
+    ∷ Value 0x1800
+    ∷ Value 0x80000401
+    ∷ Value 0x80000401
+    ∷ Value 0x80000401
+    ∷ Value 0x80000401
+    ∷ too_large 0x5A00000000001000
+    ∷ Fault 0xFF80000000001000 (first 0x00)
+    ∷ Fault 0xFF80000000001000 (first 0x00)
+    ∷ [])
+
+pub flat-cases : FlatCases
+unfolding flat flat_load flat_par off at called step_of run_of missed_of translate_of stepped_now translation_of register_at fresh_sys reg_of after_access
+    sys_of at_of with_par read_of located_now located_of load_end load_of verdict_of named decode_of success abort par_in fresh_of at_par blanks no_hints
+    place_of get_of put_of miss_in untagged word_at little_endian bytes_of
+flat-cases = refl

@@ -40,16 +40,15 @@ own_answer c memory va kind i =
     else (translate_of (translate_of c memory va kind).core memory (byte_va va i) kind).answer
 
 -- The core, the window and the access. The last is asked only of an access that leaves its page with stage 1 off, which
--- is not split: there each address is its own translation.
+-- is not split: there each later byte's own translation is as far behind the first.
 pub record Ready (c : Core) (base : ℕ) (ram : List ℕ) (va n : ℕ) (kind : Kind) : Type 0 where
   pub well : WellFormed c.tlb
   pub level : c.privilege.level ≤ 3
   pub address : va < 2 ^ 64
   pub bytes : n ≤ 8
   pub window : base + length ram ≤ 2 ^ 64
-  pub flat : on_now c ≡ false → in_page va < n
-      → ((translate_of c (word_at base ram 8) va kind).answer ≡ Ok va)
-      × ((b : ℕ) → (translate_of (translate_of c (word_at base ram 8) va kind).core (word_at base ram 8) b kind).answer ≡ Ok b)
+  pub flat : on_now c ≡ false → (pa i : ℕ) → (translate_of c (word_at base ram 8) va kind).answer ≡ Ok pa → in_page va ≤ i → i < n
+      → (translate_of (translate_of c (word_at base ram 8) va kind).core (word_at base ram 8) (byte_va va i) kind).answer ≡ Ok (pa + i)
 
 -- WHERE EACH BYTE LIES
 
@@ -125,16 +124,7 @@ module _ (c : Core) (base : ℕ) (ram : List ℕ) (va n : ℕ) (kind : Kind) (re
   unfolding translate_of stepped_now after_access
   own-flat i pa e o h k =
       let few : n ≤ 8 = ready.bytes in
-      let f = ready.flat o (omega arith) in
-      let same : pa ≡ va = address_is (sym e ∙ f.0) in
-      record {
-        pa = byte_va va i;
-        answer = own-next i (next-differs i h (omega arith)) ∙ f.1 (byte_va va i);
-        there = rw same (mod-mod (va + i) (2 ^ 64));
-      }
-    where
-      address_is : {x y : ℕ} → ◌≡◌ {A = Answer} (Ok x) (Ok y) → x ≡ y
-      address_is q = cc
+      record { pa = pa + i; answer = own-next i (next-differs i h (omega arith)) ∙ ready.flat o pa i e h k; there = refl }
 
   off-crossing : (on : Bool) → in_page va < n → crosses on va n ≡ false → on ≡ false
   off-crossing true h q = rw (lt-ltb _ _ h) at q

@@ -7,10 +7,10 @@ use borrow.Author.Tests.{eqb-true, eq-eqb}
 use Rattle.std.proofs.Math.Seq.{get_or-set_same}
 use Rattle.fault.specs.First.{first}
 use Rattle.walk.specs.Answers.{Walked}
-use Rattle.walk.proofs.TagLaws.{untagged-page}
+use Rattle.walk.proofs.TagLaws.{untagged-page, untagged-offset}
 use Rattle.walk.specs.Regime.{regime_of}
 use Rattle.walk.specs.declared.{regime.Bank.Bank}
-use Rattle.tlb.specs.Access.{may_hint, right_of, has_right, judged, user_of}
+use Rattle.tlb.specs.Access.{may_hint, right_of, has_right, judged, flat_answer, user_of}
 use Rattle.tlb.specs.Answers.{Answer, Outcome}
 use Rattle.tlb.proofs.Cells.{or-page}
 use Rattle.tlb.specs.Entry.{blank, slot_of, serves, stamped, entry_for}
@@ -22,7 +22,7 @@ use Rattle.tlb.specs.Translate.{access_of, tag_in, judged_in, walked_in, looked_
 use Rattle.tlb.specs.declared.{access.Kind.Kind, access.Privilege.Privilege, entry.Entry.Entry, hint.Hint.Hint, Tlb.Tlb}
 use Rattle.tlb.specs.declared.access.Kind.TheVariants.{Read, Write, Fetch}
 use Rattle.cpu.specs.Translations.{translate_in}
-use Rattle.cpu.specs.PageLaws.{hint-aligned, entry-aligned}
+use Rattle.cpu.specs.PageLaws.{answer_at, flat-at, hint-aligned, entry-aligned}
 
 address_is : {x y : ℕ} → ◌≡◌ {A = Answer} (Ok x) (Ok y) → x ≡ y
 address_is e = cc
@@ -70,14 +70,15 @@ abbrev user_in : Access → Bool
 user_in x = user_of x.regime x.privilege x.kind
 
 -- The page of a is given the frame of pa, whatever the tables hold: by its hint; where hints may not serve by its entry, or with stage 1 off
--- as it is.
+-- by itself.
 pub data Gives (s : Bank) (privilege : Privilege) (kind : Kind) (a pa : ℕ) (t : Tlb) : Type 0 where
   by-its-hint : may_hint privilege kind ≡ true → hint_at t (data_slot a kind) ≡ hint_for a privilege.level pa → Gives s privilege kind a pa t
   by-its-entry : may_hint privilege kind ≡ false → (asking s privilege kind a).on ≡ true
       → serves (entry_from (asking s privilege kind a) t) t (tag_in (asking s privilege kind a)) ≡ true
       → has_right (entry_from (asking s privilege kind a) t).perms (right_of kind (user_in (asking s privilege kind a))) ≡ true
       → (entry_from (asking s privilege kind a) t).pa ≡ page_of pa → Gives s privilege kind a pa t
-  by_itself : may_hint privilege kind ≡ false → (asking s privilege kind a).on ≡ false → page_of pa ≡ page_of a → Gives s privilege kind a pa t
+  by_itself : may_hint privilege kind ≡ false → (asking s privilege kind a).on ≡ false
+      → flat_answer (page_of (asking s privilege kind a).untagged) ≡ Ok (page_of pa) → Gives s privilege kind a pa t
 
 module _ (s : Bank) (privilege : Privilege) (kind : Kind) where
   -- so is each address of the page
@@ -87,7 +88,10 @@ module _ (s : Bank) (privilege : Privilege) (kind : Kind) where
       let tags : (asking s privilege kind a).untagged / 4096 ≡ (asking s privilege kind b).untagged / 4096
       = untagged-page s.tcr (regime_of privilege.level) a b same in
       by-its-entry m o (rw tags at e) (rw tags at r) (rw tags at p)
-  gives-page b same (by_itself m o p) = by_itself m o (rw same at p)
+  gives-page {a} b same (by_itself m o p) =
+      let pages : (asking s privilege kind a).untagged / 4096 ≡ (asking s privilege kind b).untagged / 4096
+      = untagged-page s.tcr (regime_of privilege.level) a b same in
+      by_itself m o (rw pages at p)
 
   module _ (memory : ℕ → Option ℕ) (t : Tlb) (a : ℕ) where
     abbrev x : Access
@@ -104,7 +108,7 @@ module _ (s : Bank) (privilege : Privilege) (kind : Kind) where
 
     -- what it leaves where hints may not serve, with stage 1 on or off
     abbrev missed : Bool → Outcome Tlb
-    missed on = if on then looked_in (get_of t (tag_in x)) x t else record { answer = Ok a; after = t }
+    missed on = if on then looked_in (get_of t (tag_in x)) x t else record { answer = flat_answer x.untagged; after = t }
 
     unhinted : may_hint privilege kind ≡ false → (o : Outcome Tlb) → noted_in x o ≡ o
     unhinted m o = go o.answer refl
@@ -166,7 +170,9 @@ module _ (s : Bank) (privilege : Privilege) (kind : Kind) where
     given pa (by-its-entry m o e r p) =
         rw (step-looked m o true e)
         (rightly entry (user_in x) kind a r ∙ ap (λ (n : ℕ). Ok (on_page n a)) p ∙ ap Ok (or-page (page_of pa) a (omega arith)), by-its-entry m o e r p)
-    given pa (by_itself m o p) = rw (step-missed m false o) (ap Ok (omega arith), by_itself m o p)
+    given pa (by_itself m o p) =
+        rw (step-missed m false o) (flat-at (page_of x.untagged) x.untagged a (omega arith) (untagged-offset s.tcr (regime_of privilege.level) a)
+        ∙ ap (λ (y : Answer). answer_at y a) p ∙ ap Ok (omega arith), by_itself m o p)
 
     -- ONCE A PAGE WAS GIVEN AN ADDRESS
     module _ (f : WellFormed t) (pa : ℕ) (e : step.answer ≡ Ok pa) where
@@ -219,9 +225,9 @@ module _ (s : Bank) (privilege : Privilege) (kind : Kind) where
       unfolding step-is
       by-stage m true o = by-slot m o (serves entry t (tag_in x)) refl
       by-stage m false o =
-          let p : ◌≡◌ {A = Answer} (Ok a) (Ok pa) = rw (step-missed m false o) at e in
-          let same : a ≡ pa = address_is p in
-          rw (step-missed m false o) (by_itself m o (omega arith))
+          let p : flat_answer x.untagged ≡ Ok pa = rw (step-missed m false o) at e in
+          let first = flat-at x.untagged (page_of x.untagged) 0 (omega arith) (omega arith) in
+          rw (step-missed m false o) (by_itself m o (first ∙ ap (λ (y : Answer). answer_at y 0) p ∙ ap Ok (omega arith)))
 
       -- the same address is given again to every address of the page
       pub step_gives : Gives s privilege kind a pa step.tlb

@@ -1,15 +1,16 @@
 -- Translations go by pages: in one cache the addresses of a page get one answer but for the offset in the page, which is each address's own.
-use Rattle.std.specs.Prelude.{if◌then◌else◌, ◌≡◌, ℕ, ◌+◌, ◌*◌, ◌/◌, ◌%◌, Bool, true, false, ◌==◌, bit_or, Option, Some, None, Ok, Err}
+use Rattle.std.specs.Prelude.{if◌then◌else◌, ◌≡◌, ℕ, ◌+◌, ◌*◌, ◌/◌, ◌%◌, ◌^◌, ◌<◌, ◌≤◌, nat_lt, Bool, true, false, ◌==◌, bit_or, Option, Some, None, Ok, Err}
 use Rattle.std.proofs.Math.Path.{refl, ap}
-use Rattle.std.proofs.Common.{sym, ◌∙◌, arith}
+use Rattle.std.proofs.Common.{sym, ◌∙◌, arith, ltb-true, ltb-false}
 use Rattle.fault.specs.First.{first}
 use Rattle.walk.specs.Answers.{Walked}
 use Rattle.walk.specs.Regime.{regime_of}
-use Rattle.walk.proofs.TagLaws.{untagged-page}
+use Rattle.walk.proofs.TagLaws.{untagged-page, untagged-offset}
 use Rattle.walk.specs.PageLaws.{paged, paged_leaf}
 use Rattle.walk.proofs.PageLaws.{walk_of-page}
 use Rattle.walk.specs.declared.{regime.Bank.Bank, level.Leaf.Leaf}
-use Rattle.tlb.specs.Access.{may_hint, regime_number, user_of, right_of, has_right, judged}
+use Rattle.tlb.specs.Access.{may_hint, regime_number, user_of, right_of, has_right, judged, flat_answer}
+use Rattle.tlb.proofs.FlatLaws.{flat-fits, flat-large}
 use Rattle.tlb.specs.Answers.{Answer, Outcome}
 use Rattle.tlb.proofs.Cells.{or-page}
 use Rattle.tlb.specs.Entry.{blank, slot_of, serves, entry_for}
@@ -26,6 +27,19 @@ use Rattle.cpu.specs.Translations.{translate_in}
 abbrev pub answer_at : Answer → ℕ → Answer
 answer_at (Ok pa) b = Ok (pa / 4096 * 4096 + b % 4096)
 answer_at (Err f) b = Err f
+
+-- so with stage 1 off
+pub flat-at : (u v b : ℕ) → u / 4096 ≡ v / 4096 → v % 4096 ≡ b % 4096 → flat_answer v ≡ answer_at (flat_answer u) b
+flat-at u v b e o = go (nat_lt u (2 ^ 44)) refl
+  where
+    go : (x : Bool) → nat_lt u (2 ^ 44) ≡ x → flat_answer v ≡ answer_at (flat_answer u) b
+    go true h =
+        let below : u < 2 ^ 44 = ltb-true _ _ h in
+        let own : v ≡ u / 4096 * 4096 + b % 4096 = omega arith in
+        flat-fits v (omega arith) ∙ ap Ok own ∙ ap (λ (x : Answer). answer_at x b) (sym (flat-fits u below))
+    go false h =
+        let above : 2 ^ 44 ≤ u = ltb-false _ _ h in
+        flat-large v (omega arith) ∙ ap (λ (x : Answer). answer_at x b) (sym (flat-large u above))
 
 module _ (a b : ℕ) where
   on-page : (pa : ℕ) → pa % 4096 ≡ 0 → on_page pa b ≡ on_page pa a / 4096 * 4096 + b % 4096
@@ -91,12 +105,12 @@ module _ (s : Bank) (privilege : Privilege) (memory : ℕ → Option ℕ) (kind 
       (walk_of-page (of a).untagged (of b).untagged untagged-is s (regime_of privilege.level) memory)
 
   abbrev missed : Bool → ℕ → ℕ → Outcome Tlb
-  missed on tag va = if on then looked_in (get_of t tag) (of va) t else record { answer = Ok va; after = t }
+  missed on tag va = if on then looked_in (get_of t tag) (of va) t else record { answer = flat_answer (of va).untagged; after = t }
 
   stage-page : (on : Bool) → (missed on (tag_in (of b)) b).answer ≡ answer_at (missed on (tag_in (of b)) a).answer b
   unfolding get_of
   stage-page true = look-page (serves entry t (tag_in (of b)))
-  stage-page false = ap Ok (omega arith)
+  stage-page false = flat-at (of a).untagged (of b).untagged b untagged-is (untagged-offset s.tcr (regime_of privilege.level) b)
 
   miss-page : (miss_in (of b) t).answer ≡ answer_at (miss_in (of a) t).answer b
   unfolding miss_in

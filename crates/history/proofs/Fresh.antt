@@ -1,7 +1,10 @@
 -- The core without a cache answers by the fresh answer of the address.
-use Rattle.std.specs.Prelude.{if◌then◌else◌, ◌≡◌, refl, Bool, true, false, ℕ, Ok}
-use Rattle.walk.specs.Fresh.{fresh_of}
-use Rattle.walk.specs.declared.fresh.Fresh.TheVariants.{Flat, Ended}
+use Rattle.std.specs.Prelude.{if◌then◌else◌, ◌≡◌, refl, Bool, true, false, ℕ, Option, Some, None}
+use Rattle.walk.specs.Flat.{flat_by}
+use Rattle.walk.specs.Fresh.{flat_end, fresh_of}
+use Rattle.walk.specs.declared.fresh.Fresh.TheVariants.{Ended}
+use Rattle.tlb.specs.Access as Access
+use Rattle.tlb.specs.Access.{flat_answer}
 use Rattle.tlb.specs.declared.access.Kind.{Kind}
 use Rattle.history.specs.World.{Plain, walk_answer, regime_now, on_now, untag_now, need_now, uncached}
 use Rattle.history.specs.Instance.{Ram, real}
@@ -11,8 +14,12 @@ pub uncached-fresh : (c : Plain real) (m : Ram) (k : Kind) (va : ℕ) → uncach
 unfolding fresh_of
 uncached-fresh c m k va = go (on_now real c)
   where
+    flat : (o : Option ℕ) → Access.flat_end o ≡ fresh_answer (flat_end o) (need_now real c k) va
+    flat (Some pa) = refl
+    flat None = refl
+
     go : (b : Bool)
-        → if b then walk_answer (real.walk c.regs m (regime_now real c) (untag_now real c va)) (need_now real c k) va else Ok va
-        ≡ fresh_answer (if b then Ended (real.walk c.regs m (regime_now real c) (untag_now real c va)) else Flat va) (need_now real c k) va
+        → if b then walk_answer (real.walk c.regs m (regime_now real c) (untag_now real c va)) (need_now real c k) va else flat_answer (untag_now real c va)
+        ≡ fresh_answer (if b then Ended (real.walk c.regs m (regime_now real c) (untag_now real c va)) else flat_end (flat_by (untag_now real c va))) (need_now real c k) va
     go true = refl
-    go false = refl
+    go false = flat (flat_by (untag_now real c va))

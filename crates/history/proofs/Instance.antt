@@ -8,7 +8,7 @@ use Rattle.sysreg.proofs.ShapeLaws.{shape-agrees}
 use Rattle.sysreg.specs.declared.regs.Control.{Control}
 use Rattle.sysreg.specs.declared.regs.El.TheVariants as El
 use Rattle.walk.specs.Regime.{regime_of, own_level, bank_of, stage1_on}
-use Rattle.walk.proofs.TagLaws.{untagged-page}
+use Rattle.walk.proofs.TagLaws.{untagged-page, untagged-offset}
 use Rattle.walk.proofs.WalkBounds.{leaf-bounds}
 use Rattle.walk.specs.PageLaws.{leaf_at}
 use Rattle.walk.proofs.PageLaws.{leaf-of-page}
@@ -38,6 +38,7 @@ real-laws =
       shape_on = λ R S e r. shape_on R S (shape-agrees R S e) r;
       shape-untag = λ R S e r va. rw ((shape-agrees R S e).tcr (own_level r));
       untag-page = λ R r va vb e. untagged-page (bank_of R r).tcr r va vb e;
+      untag-offset = λ R r va. untagged-offset (bank_of R r).tcr r va;
       leaf-level = λ R m r va ℓ e. (leaf-bounds (bank_of R r) r va (memory_of m) ℓ e).level-high;
       walk-page = λ R m r va vb p ℓ e. (
         leaf_at ℓ vb,

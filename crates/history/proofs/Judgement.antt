@@ -19,6 +19,7 @@ use Rattle.tlb.specs.Asks.{Ask, kind_of, address_of}
 use Rattle.tlb.specs.declared.{access.Kind.Kind}
 use Rattle.tlb.specs.Answers.{Answer}
 use Rattle.tlb.specs.declared.access.Kind.TheVariants.{Read, Write, Fetch}
+use Rattle.tlb.proofs.FlatLaws.{flat-failed}
 use Rattle.history.specs.World.{covers, Plain, leaf_answer, regime_now, on_now, untag_now, page_now, uncached}
 use Rattle.history.specs.History.{Event}
 use Rattle.history.specs.Instance.{Ram, memory_of, real, fresh_plain}
@@ -99,7 +100,8 @@ same_code : {x y : Fault} → ◌≡◌ {A = Answer} (Err x) (Err y) → x.fsc �
 same_code {x} {y} e = let q : x ≡ y = cc in ap (λ (f : Fault). f.fsc) q
 
 pub status-row : (past : List (Event real)) (m : Ram) (a : Ask) (x : Fault) → Judged past m a (Err x) → Row x.fsc
-status-row past m a x (itself o e) = let z : ◌≡◌ {A = ℕ} 0 1 = cc in absurd (omega arith)
+status-row past m a x (itself o e) =
+    rw (flat-failed (untag_now real (now past m) (address_of a)) x (sym e)) (size-or-translation (omega arith))
 status-row past m a x (faulted f o h e) =
     rw (same_code e) (walk-row f (subst (Sound _) h (table-walk-sound _ _ _ (memory_of m))))
 status-row past m a x (allowing R m' vs at t o h d us e) =

@@ -1,7 +1,7 @@
 -- What a translation in a traced model answers, and that it leaves the model traced.
 use Rattle.std.proofs.Math.Path.{◌≡◌, refl}
 use Rattle.std.proofs.Common.{sym, ap, subst, ◌∙◌}
-use Rattle.std.specs.Prelude.{if◌then◌else◌, Bool, ◌&&◌, List, ◌∷◌, ◌⊎◌, ℕ, zero, suc, ◌+◌, ◌*◌, ◌/◌, ◌%◌, ◌<◌, ◌==◌, Ok, Err}
+use Rattle.std.specs.Prelude.{if◌then◌else◌, Bool, ◌&&◌, List, ◌∷◌, ◌⊎◌, ℕ, zero, suc, ◌+◌, ◌*◌, ◌/◌, ◌%◌, ◌^◌, ◌<◌, ◌==◌, Ok, Err}
 use Rattle.std.proofs.Math.Bool.{true, false}
 use Rattle.std.proofs.lemmas.Bool.{false≢true}
 use Rattle.std.proofs.Math.Logic.{inl, inr}
@@ -11,7 +11,9 @@ use Rattle.word.proofs.BitLaws.{both}
 use Rattle.fault.specs.First.{first}
 use Rattle.walk.specs.declared.{regime.Regime.Regime, level.Leaf.Leaf}
 use Rattle.walk.specs.declared.regime.Regime.TheVariants.{El1, El2, El3}
+use Rattle.tlb.specs.Access.{flat_answer}
 use Rattle.tlb.specs.Answers.{Outcome}
+use Rattle.tlb.proofs.FlatLaws.{flat-fits, flat-given}
 use Rattle.tlb.specs.Model.{Slot, empty, holds, Line, Known, Model, one_hit, one_walk, same_regime, folded, hint_place, Access, as_user, need, reach_of}
 use Rattle.tlb.specs.Model.{reaches, serving, line_for, address_in, judge as judgeLine, line_of_leaf, walked, looked, unhinted, known_of, noting, noted, knowing}
 use Rattle.tlb.specs.Model.{tried, hinted, hintable, translate, noting_fetch, noted_fetch, fetched, fetch}
@@ -19,6 +21,7 @@ use Rattle.tlb.specs.declared.access.Kind.{Kind}
 use Rattle.tlb.specs.Answers.{Answer}
 use Rattle.tlb.specs.declared.access.Kind.TheVariants.{Read, Write, Fetch}
 use Rattle.history.specs.World.{World, Laws, LeavesEqual, leaf_answer, page_walk, Plain, regime_now, on_now, untag_now, page_now, need_now, uncached}
+use Rattle.tlb.proofs.Misses.{flat-is}
 use Rattle.history.specs.World.{access_of}
 use Rattle.history.proofs.Traced.{Moment, at, Seen, Today, LineFrom, LineOk, allows, HintFrom, flat, kept, HintOk, kind_at, Traced, traced-counting}
 use Rattle.history.proofs.Traced.{traced-keep, traced-hint, traced-fetch-hint}
@@ -80,7 +83,7 @@ module _ (w : World) where
   module _ (laws : Laws w) (h : List (Moment w)) (c : Plain w) (m : w.Ram) (k : Kind) (va : ℕ) where
     -- where an answer came from
     pub data Answered (x : Answer) : Type 0 where
-      itself : on_now w c ≡ false → x ≡ Ok va → Answered x
+      itself : on_now w c ≡ false → x ≡ flat_answer (untag_now w c va) → Answered x
       by : (ℓ : Leaf) (a : ℕ) → on_now w c ≡ true → Seen w h (regime_now w c) (page_now w c va) ℓ a → Today w c.regs ℓ a
           → x ≡ leaf_answer ℓ (need_now w c k) va → Answered x
       failed : (code : ℕ) → on_now w c ≡ true → w.walk c.regs m (regime_now w c) (untag_now w c va) ≡ Err code → x ≡ Err (first code)
@@ -98,12 +101,24 @@ module _ (w : World) where
     untag-first : untag_now w c va / 4096 ≡ w.untag c.regs (regime_now w c) (va / 4096 * 4096) / 4096
     untag-first = laws.untag-page c.regs (regime_now w c) va (va / 4096 * 4096) (omega arith)
 
+    offset-first : w.untag c.regs (regime_now w c) (va / 4096 * 4096) % 4096 ≡ 0
+    offset-first = laws.untag-offset c.regs (regime_now w c) (va / 4096 * 4096) ∙ aligned (va / 4096)
+      where
+        aligned : (n : ℕ) → n * 4096 % 4096 ≡ 0
+        aligned n = omega arith
+
     same-need : Unmarked c.privilege.unprivileged k → need_now w c k ≡ need k (as_user (regime_now w c) c.privilege.level false k)
     same-need u = ap (need k) (unmarked (regime_now w c) c.privilege.level c.privilege.unprivileged k u)
 
     answered-hint : (pa : ℕ) → Unmarked c.privilege.unprivileged k → Answered (Ok pa)
         → HintFrom w h c.regs k (va / 4096) c.privilege.level (pa / 4096)
-    answered-hint pa u (itself o e) = let q : pa ≡ va = cc in flat o (ap (λ (n : ℕ). n / 4096) q)
+    answered-hint pa u (itself o e) =
+        let g = flat-given (untag_now w c va) pa (sym e) in
+        let is : untag_now w c va ≡ pa = g.0 in
+        let low : untag_now w c va < 2 ^ 44 = g.1 in
+        let page = untag-first in
+        let first : w.untag c.regs (regime_now w c) (va / 4096 * 4096) ≡ pa / 4096 * 4096 = omega (arith, offset-first) in
+        flat o (ap flat_answer first ∙ flat-fits (pa / 4096 * 4096) (omega arith))
     answered-hint pa u (by ℓ a o seen d e) = go (allows w ℓ (need_now w c k)) refl e
       where
         go : (b : Bool) → allows w ℓ (need_now w c k) ≡ b → Ok pa ≡ (if b then Ok (ℓ.oa / 4096 * 4096 + va % 4096) else Err (first (12 + ℓ.level)))
@@ -116,7 +131,14 @@ module _ (w : World) where
     answered-hint pa u (failed code o f e) = let z : ◌≡◌ {A = ℕ} 0 1 = cc in absurd (omega arith)
 
     hint-answered : (q : ℕ) → Unmarked c.privilege.unprivileged k → HintFrom w h c.regs k (va / 4096) c.privilege.level q → Answered (address_in q va)
-    hint-answered q u (flat o e) = let x : q * 4096 + va % 4096 ≡ va = omega arith in itself o (ap Ok x)
+    hint-answered q u (flat o e) =
+        let g = flat-given (w.untag c.regs (regime_now w c) (va / 4096 * 4096)) (q * 4096) e in
+        let is : w.untag c.regs (regime_now w c) (va / 4096 * 4096) ≡ q * 4096 = g.0 in
+        let low : w.untag c.regs (regime_now w c) (va / 4096 * 4096) < 2 ^ 44 = g.1 in
+        let page = untag-first in
+        let offset : untag_now w c va % 4096 ≡ va % 4096 = laws.untag-offset c.regs (regime_now w c) va in
+        let own : q * 4096 + va % 4096 ≡ untag_now w c va = omega arith in
+        itself o (ap Ok own ∙ sym (flat-fits (untag_now w c va) (omega arith)))
     hint-answered q u (kept ℓ a o seen d al e) =
         by ℓ a o (subst (λ (p : ℕ). Seen w h (regime_now w c) p ℓ a) (sym untag-first) seen) d
         (rw (same-need u, al) (ap (λ (n : ℕ). Ok (n * 4096 + va % 4096)) e))
@@ -214,7 +236,7 @@ module _ (w : World) where
       unhinted-done = go (on_now w c) refl
         where
           go : (b : Bool) → on_now w c ≡ b → Fine (unhinted b a t)
-          go false o = record { traced = s; answered = itself o refl }
+          go false o = record { traced = s; answered = itself o (sym (flat-is (untag_now w c va))) }
           go true o = look-done o (t.lines (page_now w c va % 1024)) (s.lines_ok (page_now w c va % 1024))
 
       -- a data translation that came out sets a hint that holds

@@ -2,9 +2,10 @@
 -- invalidation since covers, and behind each hint such a walk or stage 1 off (`Traced`). Each operation keeps that.
 use Rattle.std.specs.Prelude.{if◌then◌else◌, ◌≡◌, Bool, true, false, not, ◌&&◌, List, [], ◌∷◌, ◌⊎◌, ℕ, ◌*◌, ◌/◌, ◌%◌, ◌==◌, ltb, Ok}
 use Rattle.std.proofs.Math.Path.{refl}
-use Rattle.std.proofs.Common.{sym, subst, ◌∙◌, inl, inr, eqb-true}
+use Rattle.std.proofs.Common.{sym, ap, subst, ◌∙◌, inl, inr, eqb-true}
 use Rattle.walk.specs.Regime.{regime_of}
 use Rattle.walk.specs.declared.{regime.Regime.Regime, level.Leaf.Leaf}
+use Rattle.tlb.specs.Access.{flat_answer}
 use Rattle.tlb.specs.Model.{Slot, empty, holds, Line, Known, Counters, Model, empty_model, belongs_to, covers as coversLine, uncovered, invalidate, retag}
 use Rattle.tlb.specs.Model.{counting, keep, keep_hint, keep_fetch, as_user, need, reach_of}
 use Rattle.tlb.specs.declared.{access.Kind.Kind, Inval.Inval}
@@ -67,7 +68,7 @@ module _ (w : World) where
   -- What a hint for the raw page v at the level el says to an access of the kind, without the mark: the physical
   -- page q.
   pub data HintFrom (h : List Moment) (R : w.Regs) (k : Kind) (v el q : ℕ) : Type 0 where
-    flat : w.on R (regime_of el) ≡ false → q ≡ v → HintFrom h R k v el q
+    flat : w.on R (regime_of el) ≡ false → flat_answer (w.untag R (regime_of el) (v * 4096)) ≡ Ok (q * 4096) → HintFrom h R k v el q
     kept : (ℓ : Leaf) (a : ℕ) → w.on R (regime_of el) ≡ true → Seen h (regime_of el) (w.untag R (regime_of el) (v * 4096) / 4096) ℓ a
         → Today R ℓ a → allows ℓ (need k (as_user (regime_of el) el false k)) ≡ true → q ≡ ℓ.oa / 4096 → HintFrom h R k v el q
 
@@ -166,7 +167,9 @@ module _ (w : World) where
     today-kept ℓ a (inr i) = inr (i ∙ asids)
 
     hint-from-kept : {h : List Moment} {k : Kind} {v el q : ℕ} → HintFrom h R k v el q → HintFrom h S k v el q
-    hint-from-kept {el} (flat o e) = flat (sym (laws.shape_on R S shape (regime_of el)) ∙ o) e
+    hint-from-kept {v} {el} (flat o e) =
+        flat (sym (laws.shape_on R S shape (regime_of el)) ∙ o)
+        (ap flat_answer (sym (laws.shape-untag R S shape (regime_of el) (v * 4096))) ∙ e)
     hint-from-kept {h} {v} {el} (kept ℓ a o s d al e) =
         kept ℓ a (sym (laws.shape_on R S shape (regime_of el)) ∙ o)
         (subst (λ (u : ℕ). Seen h (regime_of el) (u / 4096) ℓ a) (laws.shape-untag R S shape (regime_of el) (v * 4096)) s)

@@ -8,6 +8,7 @@ use Rattle.walk.specs.Permission.{Access, reading, writing, fetching, allowed}
 use Rattle.walk.specs.Walk.{leaf_of}
 use Rattle.walk.specs.declared.{regime.Regime.Regime, regime.Bank.Bank}
 use Rattle.sysreg.specs.declared.regs.Control.{Control}
+use Rattle.tlb.specs.Access.{flat_answer}
 use Rattle.tlb.specs.Lists.{Each}
 use Rattle.tlb.specs.Model.{as_user}
 use Rattle.tlb.specs.Asks.{Ask, kind_of, address_of}
@@ -45,12 +46,12 @@ module _ (past : List (Event real)) (m : Ram) where
   abbrev pub regime : Regime
   regime = regime_now real now
 
-  -- The answer x to a translation a, made after the history on the RAM m. Either stage 1 is off, and it is the address
-  -- itself; or the walk of now faults, and it is that fault; or the page had the walk t at the registers R and the RAM
+  -- The answer x to a translation a, made after the history on the RAM m. Either stage 1 is off, and it is the untagged
+  -- address, or too large; or the walk of now faults, and it is that fault; or the page had the walk t at the registers R and the RAM
   -- m', of now or of a step of the history, global or under today's ASID, which no invalidation since covers, and the
   -- access of now is checked on what t found.
   pub data Judged (a : Ask) (x : Answer) : Type 0 where
-    itself : on_now real now ≡ false → x ≡ Ok (address_of a) → Judged a x
+    itself : on_now real now ≡ false → x ≡ flat_answer (untag_now real now (address_of a)) → Judged a x
     faulted : (f : WalkFault) → on_now real now ≡ true
         → table_walk (bank_of now.regs regime) regime (untag_now real now (address_of a)) (memory_of m) ≡ faults f
         → x ≡ Err (first (status_of f)) → Judged a x

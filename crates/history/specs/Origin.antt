@@ -1,8 +1,9 @@
--- Where every answer comes from, with no premise: from the address itself with stage 1 off, from the walk of now, which
+-- Where every answer comes from, with no premise: from the address alone with stage 1 off, from the walk of now, which
 -- failed, or from a walk that the page had, now or at a step of the history, which no invalidation since covers.
 use Rattle.std.specs.Prelude.{◌≡◌, true, false, List, [], ◌∷◌, ◌++◌, ◌⊎◌, ℕ, Ok, Err}
 use Rattle.fault.specs.First.{first}
 use Rattle.walk.specs.declared.level.Leaf.{Leaf}
+use Rattle.tlb.specs.Access.{flat_answer}
 use Rattle.tlb.specs.Lists.{Each}
 use Rattle.tlb.specs.Asks.{Ask, kind_of, address_of}
 use Rattle.tlb.specs.declared.Inval.{Inval}
@@ -25,7 +26,7 @@ module _ (w : World) (c₀ : Plain w) where
 
     -- The answer x to a translation a, made after the history on the RAM m.
     pub data From (a : Ask) (x : Answer) : Type 0 where
-      flat : on_now w here ≡ false → x ≡ Ok (address_of a) → From a x
+      flat : on_now w here ≡ false → x ≡ flat_answer (untag_now w here (address_of a)) → From a x
       fails : (code : ℕ) → on_now w here ≡ true
           → w.walk here.regs m (regime_now w here) (untag_now w here (address_of a)) ≡ Err code
           → x ≡ Err (first code) → From a x

@@ -43,7 +43,7 @@ EachAnswer says =
     (past : History) (m : Ram) (s : Step real) →
     Each (says past m) (answers real (plain_after past) m s.asks (tlb_run real fresh_plain past fresh))
 
--- it comes from the address itself, from the walk of now, or from a walk that no invalidation since covers
+-- it comes from the address alone, from the walk of now, or from a walk that no invalidation since covers
 abbrev pub every_origin : Type 0
 every_origin = EachAnswer (λ past m g. From real fresh_plain past m g.ask g.answer)
 

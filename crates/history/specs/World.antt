@@ -4,6 +4,7 @@ use Rattle.std.specs.Prelude.{if◌then◌else◌, ◌≡◌, Bool, true, not, �
 use Rattle.fault.specs.First.{first}
 use Rattle.walk.specs.Regime.{regime_of}
 use Rattle.walk.specs.declared.{regime.Regime.Regime, level.Leaf.Leaf}
+use Rattle.tlb.specs.Access.{flat_answer}
 use Rattle.tlb.specs.Model.{Access, as_user, need, span_bits}
 use Rattle.tlb.specs.declared.{access.Kind.Kind, access.Privilege.Privilege, Inval.Inval}
 use Rattle.tlb.specs.Answers.{Answer}
@@ -82,12 +83,12 @@ module _ (w : World) where
   abbrev pub need_now : Plain → Kind → ℕ
   need_now c k = need k (as_user (regime_now c) c.privilege.level c.privilege.unprivileged k)
 
-  -- Its answer to a translation that isn't refused: "with stage 1 off, the address itself. Else it untags the address
-  -- and walks, by the walk's definition, on its own registers and the step's RAM." A fault is its status and the
-  -- address translated, va.
+  -- Its answer to a translation that isn't refused: it untags the address; with stage 1 off that is the answer, or an
+  -- address size fault of level 0 from 2^44 on. Else it walks, by the walk's definition, on its own registers and the
+  -- step's RAM. A fault is its status and the address translated, va.
   abbrev pub uncached : Plain → w.Ram → Kind → ℕ → Answer
   uncached c m k va =
-      if on_now c then walk_answer (w.walk c.regs m (regime_now c) (untag_now c va)) (need_now c k) va else Ok va
+      if on_now c then walk_answer (w.walk c.regs m (regime_now c) (untag_now c va)) (need_now c k) va else flat_answer (untag_now c va)
 
   -- the access of the same translation through a cache
   abbrev pub access_of : Plain → w.Ram → Kind → ℕ → Access
@@ -111,6 +112,8 @@ pub record Laws (w : World) : Type 0 where
   pub shape-untag : (R S : w.Regs) → w.same-shape R S ≡ true → (r : Regime) (va : ℕ) → w.untag R r va ≡ w.untag S r va
   -- addresses of one page are untagged to addresses of one page
   pub untag-page : (R : w.Regs) (r : Regime) (va vb : ℕ) → va / 4096 ≡ vb / 4096 → w.untag R r va / 4096 ≡ w.untag R r vb / 4096
+  -- and keep their offset in it
+  pub untag-offset : (R : w.Regs) (r : Regime) (va : ℕ) → w.untag R r va % 4096 ≡ va % 4096
   -- a leaf is of level 3 at most
   pub leaf-level : (R : w.Regs) (m : w.Ram) (r : Regime) (va : ℕ) (ℓ : Leaf) → w.walk R m r va ≡ Ok ℓ → ℓ.level ≤ 3
   -- addresses of one page have equal walks

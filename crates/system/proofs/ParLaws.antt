@@ -1,5 +1,5 @@
 -- Laws of PAR_EL1 after an AT.
-use Rattle.std.specs.Prelude.{if◌then◌else◌, ◌≡◌, Bool, true, false, not, ◌&&◌, ◌||◌, ℕ, ◌+◌, ◌*◌, ◌%◌, ◌^◌, ◌<◌, Option, Ok, Err}
+use Rattle.std.specs.Prelude.{if◌then◌else◌, ◌≡◌, Bool, true, false, not, ◌||◌, ℕ, ◌+◌, ◌*◌, ◌%◌, ◌^◌, ◌<◌, is_none, Option, Some, None, Ok, Err}
 use Rattle.std.proofs.Math.Path.{refl, ap}
 use Rattle.std.proofs.Common.{◌∙◌, arith}
 use Rattle.word.specs.Bits.{bit_on, bit0, field}
@@ -11,16 +11,16 @@ use Rattle.walk.specs.Permission.{permission_byte}
 use Rattle.walk.specs.Permission.{kind_bit, first_bit}
 use Rattle.walk.proofs.PermissionLaws.{permission-bit}
 use Rattle.walk.specs.Walk.{leaf_of, walked_of, walk_of}
-use Rattle.walk.specs.Fresh.{fresh_of}
+use Rattle.walk.specs.Fresh.{flat_end, fresh_of}
 use Rattle.walk.specs.WalkBounds.{SoundWalked}
 use Rattle.walk.proofs.WalkBounds.{status-small}
 use Rattle.walk.proofs.WalkBounds.{walk-sound}
 use Rattle.walk.specs.declared.regime.Bank.{Bank}
-use Rattle.walk.specs.declared.fresh.Fresh.TheVariants.{Flat, Ended}
+use Rattle.walk.specs.declared.fresh.Fresh.TheVariants.{Ended}
 use Rattle.tlb.specs.Access.{right_of}
 use Rattle.system.specs.declared.decode.AtForm.{AtForm}
 use Rattle.system.specs.Par.{success, abort, mair_attr, from_non_secure, kind_of, permits, leaf_found, leaf_par, walk_par, fresh_par}
-use Rattle.system.specs.Par.{par_in, at_par, access_of, checked, result_par, at_walk, granted}
+use Rattle.system.specs.Par.{par_in, at_par, access_of, checked, result_par, at_walk, at_flat, granted}
 use Rattle.walk.specs.Answers.{Walked}
 
 -- PAR_EL1.F
@@ -45,9 +45,9 @@ walk-f mair n f (Ok leaf) = go (permits f leaf)
     go true = success-f (mair_attr mair (attr_indx leaf.desc)) leaf.oa (n || ns leaf.desc) (sh leaf.desc)
     go false = abort-f (12 + leaf.level)
 
--- what holds of the flat PAR and of each walk's holds of every PAR
+-- what holds of each walk's PAR and of each flat answer's holds of every PAR
 by-stage : (P : Bool → ℕ → Type 0) (c : Control) (mair : ℕ) (f : AtForm) (va : ℕ) (memory : ℕ → Option ℕ)
-    → ((n : Bool) → P true (walk_par mair n f (at_walk c f va memory))) → ((n : Bool) → P false (success 0 va n 0))
+    → ((n : Bool) → P true (walk_par mair n f (at_walk c f va memory))) → ((n : Bool) → P false (fresh_par mair n f (flat_end (at_flat c f va))))
     → P (stage1_on (bank_of c f.regime) f.regime) (at_par c mair f va memory)
 unfolding at_par par_in fresh_of
 by-stage P c mair f va memory on off = go (stage1_on (bank_of c f.regime) f.regime)
@@ -55,16 +55,27 @@ by-stage P c mair f va memory on off = go (stage1_on (bank_of c f.regime) f.regi
     nonsecure : Bool
     nonsecure = from_non_secure (bank_of c f.regime) f.regime
 
-    go : (b : Bool) → P b (fresh_par mair nonsecure f (if b then Ended (at_walk c f va memory) else Flat va))
+    go : (b : Bool) → P b (fresh_par mair nonsecure f (if b then Ended (at_walk c f va memory) else flat_end (at_flat c f va)))
     go true = on nonsecure
     go false = off nonsecure
 
--- F is set exactly where stage 1 is on and the walk faults or the permission is absent
+-- F is set exactly where the walk faults or the permission is absent, and with stage 1 off where the address is too large
+flat-f : (mair : ℕ) (n : Bool) (f : AtForm) (o : Option ℕ) → bit0 (fresh_par mair n f (flat_end o)) ≡ is_none o
+flat-f mair n f (Some pa) = success-f 0 pa n 0
+flat-f mair n f None = abort-f 0
+
 pub par-f : (c : Control) (mair : ℕ) (f : AtForm) (va : ℕ) (memory : ℕ → Option ℕ)
-    → bit0 (at_par c mair f va memory) ≡ (stage1_on (bank_of c f.regime) f.regime && not (granted f (at_walk c f va memory)))
+    → bit0 (at_par c mair f va memory)
+    ≡ (if stage1_on (bank_of c f.regime) f.regime then not (granted f (at_walk c f va memory)) else is_none (at_flat c f va))
 par-f c mair f va memory =
-    by-stage (λ b p. bit0 p ≡ (b && not (granted f (at_walk c f va memory)))) c mair f va memory (λ n. walk-f mair n f (at_walk c f va memory))
-    (λ n. success-f 0 va n 0)
+    by-stage (λ b p. bit0 p ≡ (if b then not (granted f (at_walk c f va memory)) else is_none (at_flat c f va))) c mair f va memory
+    (λ n. walk-f mair n f (at_walk c f va memory)) (λ n. flat-f mair n f (at_flat c f va))
+
+-- with stage 1 off: the address that is too large is an address size fault of level 0, any other is PA
+pub flat-fault : (c : Control) (mair : ℕ) (f : AtForm) (va : ℕ) (memory : ℕ → Option ℕ) → stage1_on (bank_of c f.regime) f.regime ≡ false
+    → at_flat c f va ≡ None → at_par c mair f va memory ≡ 0x801
+unfolding at_par par_in fresh_of abort
+flat-fault c mair f va memory off none = rw (off, none)
 
 -- PAR_EL1 has 64 bits
 success-small : (attr pa : ℕ) (n : Bool) (s : ℕ) → attr < 2 ^ 8 → s < 2 ^ 2 → success attr pa n s < 2 ^ 64
@@ -90,7 +101,11 @@ pub par-small : (c : Control) (mair : ℕ) (f : AtForm) (va : ℕ) (memory : ℕ
 par-small c mair f va memory =
     by-stage (λ b p. p < 2 ^ 64) c mair f va memory
     (λ n. walk-small mair n f _ (at_walk c f va memory) (walk-sound (bank_of c f.regime) f.regime _ memory))
-    (λ n. success-small 0 va n 0 (omega arith) (omega arith))
+    (λ n. flat-small n (at_flat c f va))
+  where
+    flat-small : (n : Bool) (o : Option ℕ) → fresh_par mair n f (flat_end o) < 2 ^ 64
+    flat-small n (Some pa) = success-small 0 pa n 0 (omega arith) (omega arith)
+    flat-small n None = abort-small 0 (omega arith)
 
 -- an AT reads RAM by its walk alone
 pub by-walk : (c : Control) (mair : ℕ) (f : AtForm) (va : ℕ) (m n : ℕ → Option ℕ) → at_walk c f va m ≡ at_walk c f va n

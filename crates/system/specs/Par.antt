@@ -7,6 +7,7 @@ use Rattle.walk.specs.Regime.{bank_of, non_secure, single_priv, wxn_of}
 use Rattle.walk.specs.Descriptor.{attr_indx, ns, sh}
 use Rattle.walk.specs.Table.{Translation, Result, mapped, faults, status_of}
 use Rattle.walk.specs.Permission.{Access, reading, writing, allowed}
+use Rattle.walk.specs.Flat.{flat_by}
 use Rattle.walk.specs.Fresh.{fresh_of}
 use Rattle.walk.specs.Tag.{untagged}
 use Rattle.walk.specs.Walk.{walk_of}
@@ -80,7 +81,7 @@ abbrev pub walk_par : ℕ → Bool → AtForm → Walked → ℕ
 walk_par mair nonsecure f (Ok leaf) = leaf_par mair nonsecure f leaf
 walk_par mair nonsecure f (Err status) = abort status
 
--- With stage 1 off PA is the address. D1: SH is 0, and not 0b10. A5: ATTR is 0 under HCR_EL2.DC too.
+-- With stage 1 off PA is that of the address; one that is too large is a fault. D1: SH is 0, and not 0b10. A5: ATTR is 0 under HCR_EL2.DC too.
 abbrev pub fresh_par : ℕ → Bool → AtForm → Fresh → ℕ
 fresh_par mair nonsecure f (Ended w) = walk_par mair nonsecure f w
 fresh_par mair nonsecure f (Flat pa) = success 0 pa nonsecure 0
@@ -114,7 +115,11 @@ result_par s f mair nonsecure (faults x) = abort (status_of x)
 abbrev pub at_walk : Control → AtForm → ℕ → (ℕ → Option ℕ) → Walked
 at_walk c f va memory = walk_of (bank_of c f.regime) f.regime (untagged (bank_of c f.regime).tcr f.regime va) memory
 
--- it ends in a leaf that has the right asked for
+-- what its address is with stage 1 off
+abbrev pub at_flat : Control → AtForm → ℕ → Option ℕ
+at_flat c f va = flat_by (untagged (bank_of c f.regime).tcr f.regime va)
+
+-- the walk ends in a leaf that has the right asked for
 abbrev pub granted : AtForm → Walked → Bool
 granted f (Ok leaf) = permits f leaf
 granted f (Err status) = false

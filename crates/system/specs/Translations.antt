@@ -91,4 +91,7 @@ pub record Failures : Type 0 where
   pub invalid : par 1 1 (read El1) 0x8000_0420 ≡ 0x80B
   pub too_far : par 1 1 (read El1) 0x1_8000_0421 ≡ 0x803
   pub not_accessed : par 1 1 (read El1) 0x8000_0021 ≡ 0x813
+  -- with stage 1 off: the last address below 2^44, and the next
+  pub flat_last : at_par (settings 0 0) 0 (read El3) 0xFFF_FFFF_FFFF (word_at 0 [] 8) ≡ 0xFFF_FFFF_F800
+  pub flat_too_large : at_par (settings 0 0) 0 (read El3) 0x1000_0000_0000 (word_at 0 [] 8) ≡ 0x801
   pub outside : at_par (settings 1 1) 0 (read El1) 0x40001234 (word_at 0x1010 (bytes_of 8 0x8000_0421) 8) ≡ 0x82B

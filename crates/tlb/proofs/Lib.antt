@@ -5,6 +5,7 @@ pub mod Counting
 pub mod Cells
 pub mod Refines
 pub mod Levels
+pub mod FlatLaws
 pub mod Misses
 pub mod Translations
 pub mod EveryRun

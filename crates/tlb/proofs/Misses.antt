@@ -1,16 +1,19 @@
 -- A translation that no hint serves, against the plain model.
-use Rattle.std.specs.Prelude.{if◌then◌else◌, ◌≡◌, ℕ, ◌*◌, ◌/◌, ◌≤◌, Bool, true, false, Some, None, Ok, Err}
+use Rattle.std.specs.Prelude.{if◌then◌else◌, ◌≡◌, ◌≢◌, nat_lt, ℕ, ◌*◌, ◌/◌, ◌^◌, ◌≤◌, ◌<◌, Bool, true, false, Some, None, Ok, Err}
 use Rattle.std.proofs.Math.Path.{refl, ap}
 use Rattle.std.proofs.Common.{◌∙◌, arith, length-set}
+use borrow.Author.Tests.{ne_eqb}
+use Rattle.std.proofs.lemmas.Grind.{common_steps}
 use Rattle.walk.specs.Answers.{Walked}
 use Rattle.walk.specs.declared.level.Leaf.{Leaf}
+use Rattle.tlb.specs.Access.{flat_answer}
 use Rattle.tlb.specs.Answers.{Outcome}
 use Rattle.tlb.proofs.Cells.{judged-is}
 use Rattle.tlb.specs.Count.{with_tally, hit_counted, walk_counted}
 use Rattle.tlb.specs.Entry.{blank, slot_of, serves, entry_for}
 use Rattle.tlb.proofs.Lists.{each-getD}
 use Rattle.tlb.specs.Live.{Follows, line_in, live, Made, WellFormed, LeafLevel}
-use Rattle.tlb.specs.Model.{empty, holds, Line, one_hit, one_walk, counting, keep, Access, line_of_leaf, reach_of, judge, walked, looked, unhinted}
+use Rattle.tlb.specs.Model.{empty, holds, Line, one_hit, one_walk, counting, keep, Access, line_of_leaf, reach_of, judge, walked, looked, flat, unhinted}
 use Rattle.tlb.specs.Tlb.{entry_at, get_of}
 use Rattle.tlb.specs.Translate.{tag_in, walked_in, looked_in, miss_in}
 use Rattle.tlb.specs.declared.{entry.Entry.Entry, count.Tally.Tally, Tlb.Tlb}
@@ -29,6 +32,20 @@ tally-well t i n s =
       hints = s.hints;
       fetch = s.fetch;
     }
+
+-- the code's test of a flat address is the model's
+pub flat-is : (u : ℕ) → flat_answer u ≡ flat u
+flat-is u = go (nat_lt u (2 ^ 44)) refl
+  where
+    go : (b : Bool) → nat_lt u (2 ^ 44) ≡ b → flat_answer u ≡ flat u
+    go true e =
+        let below : u < 2 ^ 44 = grind (arith, common_steps, e) in
+        let none : u / 2 ^ 44 ≡ 0 = omega arith in
+        rw (e, none)
+    go false e =
+        let above : 2 ^ 44 ≤ u = grind (arith, common_steps, e) in
+        let some : u / 2 ^ 44 ≢ 0 = λ z. omega arith in
+        rw (e, ne_eqb (u / 2 ^ 44) 0 some)
 
 module _ (a : Access) (t : Tlb) (s : WellFormed t) (fits : LeafLevel a.walk) (low : a.privilege.level ≤ 3) where
   abbrev level : ℕ
@@ -89,12 +106,12 @@ module _ (a : Access) (t : Tlb) (s : WellFormed t) (fits : LeafLevel a.walk) (lo
   look-follows false = walk-follows a.walk refl
 
   abbrev missed : Bool → Outcome Tlb
-  missed on = if on then looked_in (get_of t (tag_in a)) a t else record { answer = Ok a.va; after = t }
+  missed on = if on then looked_in (get_of t (tag_in a)) a t else record { answer = flat_answer a.untagged; after = t }
 
   miss-by : (on : Bool) → Follows (missed on) (unhinted on a (live t))
   unfolding get_of unhinted
   miss-by true = rw (line-is t a.regime (a.untagged / 4096)) (look-follows (serves entry t (tag_in a)))
-  miss-by false = record { answer = refl; after = refl; well = s }
+  miss-by false = record { answer = flat-is a.untagged; after = refl; well = s }
 
   pub miss-follows : Follows (miss_in a t) (unhinted a.on a (live t))
   unfolding miss_in

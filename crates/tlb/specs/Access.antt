@@ -1,6 +1,7 @@
 -- An access: what it wants, who makes it, what it needs, and its answer.
-use Rattle.std.specs.Prelude.{if◌then◌else◌, ℕ, ◌+◌, ◌*◌, ◌/◌, ◌%◌, ◌^◌, Bool, true, false, not, ◌&&◌, ◌||◌, ◌==◌, bit_or, Result, Ok, Err, eqb}
+use Rattle.std.specs.Prelude.{if◌then◌else◌, ℕ, ◌+◌, ◌*◌, ◌/◌, ◌%◌, ◌^◌, Bool, true, false, not, ◌&&◌, ◌||◌, ◌==◌, bit_or, Option, Some, None, Result, Ok, Err, eqb}
 use Rattle.fault.specs.First.{first}
+use Rattle.walk.specs.Flat.{flat_by}
 use Rattle.walk.specs.declared.regime.Regime.{Regime}
 use Rattle.walk.specs.declared.regime.Regime.TheVariants.{El1, El2, El3}
 use Rattle.tlb.specs.Hint.{on_page}
@@ -67,3 +68,11 @@ has_right perms right = perms / 2 ^ right % 2 == 1
 -- the entry's page with the low bits of the address, or a permission fault of its level
 unfoldable pub judged : Entry → Bool → Kind → ℕ → Answer
 judged e user kind va = if has_right e.perms (right_of kind user) then Ok (on_page e.pa va) else Err (first (bit_or 12 e.level))
+
+-- with stage 1 off: the untagged address, or an address size fault of level 0
+abbrev pub flat_end : Option ℕ → Answer
+flat_end (Some pa) = Ok pa
+flat_end None = Err (first 0)
+
+abbrev pub flat_answer : ℕ → Answer
+flat_answer u = flat_end (flat_by u)

@@ -4,14 +4,14 @@ use Rattle.std.specs.Prelude.{ℕ, ◌+◌, ◌/◌, ◌%◌, ◌^◌, Bool, tru
 use Rattle.tlb.specs.Model.{Slot, empty, holds, Line, Counters, Model, up, one_hit, one_walk, line_for, hint_place, knowing, Access}
 use Rattle.tlb.specs.Model.{hintable}
 
--- by a hint, by the address itself where stage 1 is off, by a line, or by a walk, whether it faults or not
+-- by a hint, by the address alone where stage 1 is off, by a line, or by a walk, whether it faults or not
 pub data How : Type 0 where
   hint_answered : How
   itself : How
   line_answered : How
   walk_answered : How
 
--- at the level of the access a line is a hit, every walk counts one, a hint and the address itself nothing
+-- at the level of the access a line is a hit, every walk counts one, a hint and the address alone nothing
 abbrev pub how_counted : How → ℕ → Counters → Counters
 how_counted hint_answered level k = k
 how_counted itself level k = k

@@ -287,10 +287,13 @@ unfoldable pub looked : Slot Line → Access → Model → Outcome Model
 looked (holds l) a m = record { answer = judge l a; after = counting (one_hit a.privilege.level) m }
 looked empty a m = walked a.walk a m
 
--- with stage 1 off the answer is the address itself
+-- with stage 1 off: the untagged address, or an address size fault of level 0 where it has bits above 43
+abbrev pub flat : ℕ → Answer
+flat u = if u / 2 ^ 44 == 0 then Ok u else Err (first 0)
+
 unfoldable pub unhinted : Bool → Access → Model → Outcome Model
 unhinted true a m = looked (line_for m a.regime (a.untagged / 4096)) a m
-unhinted false a m = record { answer = Ok a.va; after = m }
+unhinted false a m = record { answer = flat a.untagged; after = m }
 
 -- an address becomes a hint, a fault does not
 abbrev pub known_of : Access → ℕ → Known

@@ -6,7 +6,7 @@ use Rattle.walk.specs.Regime.{stage1_on, regime_of}
 use Rattle.walk.specs.Tag.{untagged}
 use Rattle.walk.specs.Walk.{walk_of}
 use Rattle.walk.specs.declared.regime.Bank.{Bank}
-use Rattle.tlb.specs.Access.{tag_of, may_hint, user_of, judged}
+use Rattle.tlb.specs.Access.{tag_of, may_hint, user_of, judged, flat_answer}
 use Rattle.tlb.specs.Answers.{Answer, Outcome}
 use Rattle.tlb.specs.Count.{hit_counted, walk_counted}
 use Rattle.tlb.specs.Entry.{entry_for}
@@ -53,9 +53,9 @@ abbrev pub looked_in : Option Entry → Access → Tlb → Outcome Tlb
 looked_in (Some e) a t = record { answer = judged_in a e; after = hit_counted a.privilege.level t }
 looked_in None a t = walked_in a.walk a t
 
--- with stage 1 off the address itself
+-- with stage 1 off by the untagged address alone
 unfoldable pub miss_in : Access → Tlb → Outcome Tlb
-miss_in a t = if a.on then looked_in (get_of t (tag_in a)) a t else record { answer = Ok a.va; after = t }
+miss_in a t = if a.on then looked_in (get_of t (tag_in a)) a t else record { answer = flat_answer a.untagged; after = t }
 
 -- BY A HINT
 

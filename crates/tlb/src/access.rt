@@ -1,10 +1,12 @@
 // An access: what it wants, who makes it, what it needs, and its answer.
 ghost use Rattle.std.specs.Prelude.{◌≡◌, ◌≤◌};
-ghost use Rattle.tlb.specs.Access.{is_fetch, kind_at, kind_number, may_hint, tag_of, user_of, right_of, judged};
+ghost use Rattle.tlb.specs.Access.{is_fetch, kind_at, kind_number, may_hint, tag_of, user_of, right_of, flat_answer, judged};
 
 use crate::entry::Entry;
 use crate::hint;
 use fault::Fault;
+use walk::flat::flat_of;
+use walk::fsc::FSC_ADDR_SIZE;
 use walk::regime::{Bank, Regime};
 
 /// What an access wants.
@@ -72,6 +74,13 @@ pub fn tag_of(regime: Regime, va: u64) -> u64
         Regime::El3 => 3,
     };
     (va >> 12) << 2 | number
+}
+
+/// The answer to an untagged address with stage 1 off: itself, or an address size fault of level 0.
+pub fn flat(untagged: u64) -> Result<u64, Fault>
+    ensures { result ≡ flat_answer untagged }
+{
+    flat_of(untagged).ok_or(fault::first(FSC_ADDR_SIZE))
 }
 
 impl Privilege {

@@ -35,7 +35,7 @@ impl Tlb {
         }
     }
 
-    /// The answer of a translation that no hint serves, where no walk is needed: with stage 1 off the address itself, or
+    /// The answer of a translation that no hint serves, where no walk is needed: with stage 1 off by the address alone, or
     /// by the entry of its page. It leaves a hint, where one may serve. RAM is read by no code here.
     #[inline(always)]
     #[tactic(auto, unfolding(crate::specs::Translate::miss_in))]
@@ -44,11 +44,12 @@ impl Tlb {
         ensures after { AfterHanded (asked a (word_at base ram.now 8)) self.old result self.new }
     {
         let regime = Regime::of_level(a.privilege.level);
-        if !a.bank.stage1_on(regime) {
-            self.leave_hint(a, Ok(a.va));
-            return Some(Ok(a.va));
-        }
         let va = a.bank.untag(regime, a.va);
+        if !a.bank.stage1_on(regime) {
+            let answer = access::flat(va);
+            self.leave_hint(a, answer);
+            return Some(answer);
+        }
         if let Some(e) = self.get(access::tag_of(regime, va)) {
             self.count_hit(a.privilege.level);
             let answer = e.judge(a.privilege.is_user(regime, a.kind), a.kind, a.va);

@@ -6,6 +6,9 @@ use Rattle.std.specs.Prelude.{◌≡◌, refl, false, List, [], ◌∷◌, ◌++
 use Rattle.std.proofs.Common.{sym, ap, ◌∙◌}
 use borrow.Author.Tests.{le-ltb}
 use Rattle.std.proofs.Math.ListN.{length}
+use Rattle.walk.proofs.TagLaws.{untagged-plus}
+use Rattle.tlb.specs.Access.{flat_answer}
+use Rattle.tlb.proofs.FlatLaws.{flat-given, flat-fits}
 use Rattle.tlb.specs.Asks.{translates}
 use Rattle.tlb.specs.declared.access.Kind.{Kind}
 use Rattle.tlb.specs.declared.access.Kind.TheVariants.{Read, Write}
@@ -14,8 +17,8 @@ use Rattle.cpu.specs.Core.{fresh_core}
 use Rattle.cpu.specs.Translations.{translate_in}
 use Rattle.cpu.specs.Memory.{stepped_now, translate_of}
 use Rattle.cpu.specs.OpLaws.{on_now}
-use Rattle.cpu.specs.OwnAddress.{Ready}
-use Rattle.cpu.specs.ByteMeaning.{load_byte, store_byte, store-others}
+use Rattle.cpu.specs.OwnAddress.{byte_va, Ready}
+use Rattle.cpu.specs.ByteMeaning.{load_byte, store_byte, store-others, load-flat, store-flat}
 use Rattle.cpu.specs.ZeroMeaning.{zva-zeroes}
 use Rattle.cpu.specs.Check.{missed_of}
 use Rattle.cpu.specs.Step.{run_of, step_of}
@@ -36,7 +39,7 @@ use Rattle.transparency.proofs.Direct.{begins, one-ask}
 use Rattle.transparency.proofs.ModelCalls.{every-core-well}
 use Rattle.transparency.specs.Bytes as Statement
 
--- WITH STAGE 1 OFF every translation is of the address itself
+-- WITH STAGE 1 OFF every translation is of the untagged address itself, or too large
 
 module _ (list : List (Fed real machine)) (seen : Shown real machine fresh_core list) (m : Ram) where
   off-here : World.on_now real (plain_in (bare_now list)) ≡ false → (va : ℕ) → SettledAt list m va
@@ -69,16 +72,16 @@ unmoved b m kind va = go (ruling_in b m (Translate kind va))
 
 -- what a law of bytes asks of the core, the window and the access
 pub ready-after : (list : List (Fed real machine)) (seen : Shown real machine fresh_core list) (m : Ram) (va n : ℕ) (kind : Kind)
-    → va < 2 ^ 64 → n ≤ 8 → m.base + length m.bytes ≤ 2 ^ 64 → Ready (core_now list) m.base m.bytes va n kind
+    → va < 2 ^ 64 → n ≤ 8 → Statement.Within44 list va n → m.base + length m.bytes ≤ 2 ^ 64 → Ready (core_now list) m.base m.bytes va n kind
 unfolding step_of run_of
-ready-after list seen m va n kind small few room =
+ready-after list seen m va n kind small few near room =
     record {
       well = (every-core-well (lent_of real machine list)).cache;
       level = (every-core-well (lent_of real machine list)).level;
       address = small;
       bytes = few;
       window = room;
-      flat = λ off far. (flat-after list seen m (same ∙ off) kind va, λ b. rw next at (flat-after more more-seen m (still ∙ same ∙ off) kind b));
+      flat = λ off pa i e h k. rw next at (flat-after more more-seen m (still ∙ same ∙ off) kind (byte_va va i) ∙ ap flat_answer (later i) ∙ onward off pa i e k);
     }
   where
     same : World.on_now real (plain_in (bare_now list)) ≡ on_now (core_now list)
@@ -97,24 +100,51 @@ ready-after list seen m va n kind small few room =
     next : core_now more ≡ (translate_of (core_now list) (memory_of m) va kind).core
     next = run-one real machine fresh_core list one ∙ rw (passed list seen m room kind va)
 
+    untag : ℕ → ℕ
+    untag = World.untag_now real (plain_in (bare_now list))
+
+    later : (i : ℕ) → World.untag_now real (plain_in (bare_now more)) (byte_va va i) ≡ untag (byte_va va i)
+    later i = ap (λ (b : Bare). World.untag_now real (plain_in b) (byte_va va i)) (bare-one real machine fresh_bare list one ∙ unmoved (bare_now list) m kind va)
+
+    -- byte i's untagged address lies as far behind the first
+    onward : on_now (core_now list) ≡ false → (pa i : ℕ) → (translate_of (core_now list) (memory_of m) va kind).answer ≡ Ok pa → i < n
+        → flat_answer (untag (byte_va va i)) ≡ Ok (pa + i)
+    onward off pa i e k =
+        let own = flat-given (untag va) pa (sym (flat-after list seen m (same ∙ off) kind va) ∙ e) in
+        let is : untag va ≡ pa = own.0 in
+        let fits : untag va + n ≤ 2 ^ 44 = near (same ∙ off) in
+        ap flat_answer (untagged-plus _ _ va i small (omega arith) ∙ ap (λ (u : ℕ). u + i) is) ∙ flat-fits (pa + i) (omega arith)
+
     still : World.on_now real (plain_in (bare_now more)) ≡ World.on_now real (plain_in (bare_now list))
     still = ap (λ (b : Bare). World.on_now real (plain_in b)) (bare-one real machine fresh_bare list one ∙ unmoved (bare_now list) m kind va)
 
 -- byte i of what a load answers is the byte of RAM at the translation of its own address
 pub load-byte-after : Statement.load_byte_after
-load-byte-after list seen m va n v i small few room bytes e h =
-    load_byte (core_now list) m.base m.bytes va n v i (ready-after list seen m va n Read small few room) bytes e h
+load-byte-after list seen m va n v i small few near room bytes e h =
+    load_byte (core_now list) m.base m.bytes va n v i (ready-after list seen m va n Read small few near room) bytes e h
 
 -- after a store that is done, the byte of RAM at the translation of byte i's own address is byte i of the value; of two
 -- bytes at one place the later
 pub store-byte-after : Statement.store_byte_after
-store-byte-after list seen m va n v i small few room e h =
-    store_byte (core_now list) m.base m.bytes va n v i (ready-after list seen m va n Write small few room) e h
+store-byte-after list seen m va n v i small few near room e h =
+    store_byte (core_now list) m.base m.bytes va n v i (ready-after list seen m va n Write small few near room) e h
 
 -- and every byte that is at the translation of none of its bytes' own addresses stays
 pub store-others-after : Statement.store_others_after
-store-others-after list seen m va n v k small few room h none =
-    store-others (core_now list) m.base m.bytes va n v k (ready-after list seen m va n Write small few room) h none
+store-others-after list seen m va n v k small few near room h none =
+    store-others (core_now list) m.base m.bytes va n v k (ready-after list seen m va n Write small few near room) h none
+
+-- with stage 1 off an access lies whole from its first byte's translation on
+on-same : (list : List (Fed real machine)) → World.on_now real (plain_in (bare_now list)) ≡ on_now (core_now list)
+on-same list = ap (λ (b : Bare). World.on_now real (plain_in b)) (sym (two-cores (lent_of real machine list)))
+
+pub flat-load-after : Statement.flat_load_after
+flat-load-after list seen m va n pa off room bytes e inside =
+    load-flat (core_now list) m.base m.bytes va n pa (sym (on-same list) ∙ off) room bytes e inside
+
+pub flat-store-after : Statement.flat_store_after
+flat-store-after list seen m va n v pa off room e inside =
+    store-flat (core_now list) m.base m.bytes va n v pa (sym (on-same list) ∙ off) room e inside
 
 -- DC ZVA that is done
 pub zva-after : Statement.zva_after

@@ -2,9 +2,11 @@
 -- DC ZVA leaves 64 zero bytes at the translation of the aligned address and every other byte as it was. The laws are
 -- the core's, of cores that are well-formed; `read_of`, `write_of`, `ram_after_write`, `sys_of` and `sys_ram` are what
 -- `step_of` and `ram_after` make of a call that misses no check.
-use Rattle.std.specs.Prelude.{◌≡◌, false, List, ℕ, ◌+◌, ◌/◌, ◌%◌, ◌^◌, ◌≤◌, ◌<◌, get_or, Ok}
+use Rattle.std.specs.Prelude.{◌≡◌, true, false, List, ℕ, ◌+◌, ◌/◌, ◌%◌, ◌^◌, ◌≤◌, ◌<◌, get_or, Ok}
 use Rattle.std.proofs.Math.ListN.{length}
 use Rattle.word.specs.Bits.{align_down, wrap}
+use Rattle.word.specs.Ram.{within}
+use Rattle.tlb.specs.Access.{flat_answer}
 use Rattle.tlb.specs.declared.access.Kind.{Kind}
 use Rattle.tlb.specs.declared.access.Kind.TheVariants.{Read, Write}
 use Rattle.cpu.specs.Core.{fresh_core, reg_of}
@@ -22,13 +24,35 @@ use Rattle.transparency.specs.Events.{plain_in}
 use Rattle.transparency.specs.Machine.{machine}
 use Rattle.transparency.specs.Direct.{core_now, bare_now}
 
--- WITH STAGE 1 OFF every translation is of the address itself
+-- WITH STAGE 1 OFF every translation is of the untagged address itself, or too large
 
 module _ (list : List (Fed real machine)) (m : Ram) where
   abbrev pub flat_after : Type 0
   flat_after =
       World.on_now real (plain_in (bare_now list)) ≡ false → (kind : Kind) (va : ℕ)
-      → (translate_of (core_now list) (memory_of m) va kind).answer ≡ Ok va
+      → (translate_of (core_now list) (memory_of m) va kind).answer ≡ flat_answer (World.untag_now real (plain_in (bare_now list)) va)
+
+-- and an access of n bytes, which is one translation, of its first byte, lies whole from there on, also past 2^44
+abbrev pub flat_load_after : Type 0
+flat_load_after =
+    (list : List (Fed real machine)) (seen : Shown real machine fresh_core list) (m : Ram) (va n pa : ℕ)
+    → World.on_now real (plain_in (bare_now list)) ≡ false → m.base + length m.bytes ≤ 2 ^ 64 → ((k : ℕ) → get_or m.bytes k 0 < 256)
+    → (translate_of (core_now list) (memory_of m) va Read).answer ≡ Ok pa → within m.base (length m.bytes) n pa ≡ true
+    → (v : ℕ) × ((read_of (core_now list) m.base m.bytes va n).answer ≡ Ok v)
+    × ((i : ℕ) → i < n → v / 256 ^ i % 256 ≡ byte_in m.base m.bytes (pa + i))
+
+abbrev pub flat_store_after : Type 0
+flat_store_after =
+    (list : List (Fed real machine)) (seen : Shown real machine fresh_core list) (m : Ram) (va n v pa : ℕ)
+    → World.on_now real (plain_in (bare_now list)) ≡ false → m.base + length m.bytes ≤ 2 ^ 64
+    → (translate_of (core_now list) (memory_of m) va Write).answer ≡ Ok pa → within m.base (length m.bytes) n pa ≡ true
+    → ((write_of (core_now list) m.base m.bytes va n).answer ≡ Ok tt)
+    × ((i : ℕ) → i < n → byte_in m.base (ram_after_write (core_now list) m.base m.bytes va n v) (pa + i) ≡ v / 256 ^ i % 256)
+
+-- with stage 1 on, or no byte of the access past 2^44: else its later bytes' own translations would fault
+abbrev pub Within44 : List (Fed real machine) → ℕ → ℕ → Type 0
+Within44 list va n =
+    World.on_now real (plain_in (bare_now list)) ≡ false → World.untag_now real (plain_in (bare_now list)) va + n ≤ 2 ^ 44
 
 -- EACH BYTE
 
@@ -36,7 +60,7 @@ module _ (list : List (Fed real machine)) (m : Ram) where
 abbrev pub load_byte_after : Type 0
 load_byte_after =
     (list : List (Fed real machine)) (seen : Shown real machine fresh_core list) (m : Ram) (va n v i : ℕ)
-    → va < 2 ^ 64 → n ≤ 8 → m.base + length m.bytes ≤ 2 ^ 64 → ((k : ℕ) → get_or m.bytes k 0 < 256)
+    → va < 2 ^ 64 → n ≤ 8 → Within44 list va n → m.base + length m.bytes ≤ 2 ^ 64 → ((k : ℕ) → get_or m.bytes k 0 < 256)
     → (read_of (core_now list) m.base m.bytes va n).answer ≡ Ok v → i < n
     → (o : OwnByte (core_now list) m.base m.bytes va Read i) × (v / 256 ^ i % 256 ≡ byte_in m.base m.bytes (wrap o.pa))
 
@@ -45,7 +69,7 @@ load_byte_after =
 abbrev pub store_byte_after : Type 0
 store_byte_after =
     (list : List (Fed real machine)) (seen : Shown real machine fresh_core list) (m : Ram) (va n v i : ℕ)
-    → va < 2 ^ 64 → n ≤ 8 → m.base + length m.bytes ≤ 2 ^ 64
+    → va < 2 ^ 64 → n ≤ 8 → Within44 list va n → m.base + length m.bytes ≤ 2 ^ 64
     → (write_of (core_now list) m.base m.bytes va n).answer ≡ Ok tt → i < n
     → (o : OwnByte (core_now list) m.base m.bytes va Write i)
     × (((j pa : ℕ) → i < j → j < n → own_answer (core_now list) (memory_of m) va Write j ≡ Ok pa
@@ -56,7 +80,7 @@ store_byte_after =
 abbrev pub store_others_after : Type 0
 store_others_after =
     (list : List (Fed real machine)) (seen : Shown real machine fresh_core list) (m : Ram) (va n v k : ℕ)
-    → va < 2 ^ 64 → n ≤ 8 → m.base + length m.bytes ≤ 2 ^ 64 → k < length m.bytes
+    → va < 2 ^ 64 → n ≤ 8 → Within44 list va n → m.base + length m.bytes ≤ 2 ^ 64 → k < length m.bytes
     → ((i pa : ℕ) → i < n → own_answer (core_now list) (memory_of m) va Write i ≡ Ok pa → wrap pa ≡ m.base + k → ⊥)
     → get_or (ram_after_write (core_now list) m.base m.bytes va n v) k 0 ≡ get_or m.bytes k 0
 

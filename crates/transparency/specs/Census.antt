@@ -75,7 +75,7 @@ answers_address (Ok pa) = true
 answers_address (Err f) = false
 
 -- Of a page that is counted under a permission byte the core without a cache answers an access with an address exactly
--- where the byte has the bit that the access needs; of a flat one, with the address itself.
+-- where the byte has the bit that the access needs; of a flat one, with its flat address.
 abbrev pub rights_allow : Type 0
 rights_allow =
     (b : Bare) (m : Ram) (k : Kind) (va perms : ℕ) → has_rights perms (fresh_now (plain_in b) m va) ≡ true

@@ -15,6 +15,7 @@ use Rattle.walk.specs.Regime.{regime_of, bank_of, stage1_on}
 use Rattle.walk.specs.Tag.{untagged}
 use Rattle.walk.specs.Walk.{walk_of}
 use Rattle.walk.specs.declared.{regime.Regime.Regime, level.Leaf.Leaf}
+use Rattle.tlb.specs.Access.{flat_answer}
 use Rattle.tlb.specs.Answers.{Answer}
 use Rattle.tlb.specs.Asks.{Ask, translates, fetches, Given, kind_of, address_of, answers}
 use Rattle.tlb.specs.Lists.{Each}
@@ -102,9 +103,9 @@ pub record Settled (past : List Step) (m : Ram) (r : Regime) (p : ℕ) : Type 0 
       Each (λ v. Covers v p ℓ (asid_of old.control) → ⊥) (drops_run old (s ∷ later)) →
       (ℓ' : Leaf) × (walk_of_page now.control m r p ≡ Ok ℓ') × EqualLeaves ℓ ℓ'
 
--- THE CORE WITHOUT A CACHE answers a translation of va: with stage 1 off, the address itself; else it untags and walks. A
--- fault of the walk is the answer; else 0x0C plus the leaf's level, where the leaf lacks the bit that the access needs;
--- else the leaf's page with the address's low twelve bits.
+-- THE CORE WITHOUT A CACHE answers a translation of va: it untags; with stage 1 off that address is the answer, or fault
+-- 0x00 from 2^44 on; else it walks. A fault of the walk is the answer; else 0x0C plus the leaf's level, where the leaf
+-- lacks the bit that the access needs; else the leaf's page with the address's low twelve bits.
 abbrev pub answer_by : Walked → ℕ → ℕ → Answer
 answer_by (Err code) bit va = Err (first code)
 answer_by (Ok ℓ) bit va =
@@ -119,7 +120,7 @@ uncached b m k va =
     let s = bank_of b.control r in
     if stage1_on s r
     then answer_by (walk_of s r (untagged_in b va) (memory_of m)) (need k (as_user r b.privilege.level b.privilege.unprivileged k)) va
-    else Ok va
+    else flat_answer (untagged_in b va)
 
 -- THE CLAIM: at each step of every list, each translation of a settled page is answered so. A list leaves the core as its
 -- steps do.

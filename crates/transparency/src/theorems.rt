@@ -32,7 +32,7 @@ ghost use Rattle.transparency.specs.LevelCounts.{level_hits, level_walks, sums_l
 ghost use Rattle.transparency.specs.LevelCounts.{own_hits, own_walks, sums_call, quiet_stays, refused_stays};
 ghost use Rattle.transparency.specs.LevelCounts.{fetch_mark_free};
 ghost use Rattle.transparency.specs.Bytes.{flat_after, load_byte_after, store_byte_after, store_others_after};
-ghost use Rattle.transparency.specs.Bytes.{zva_after};
+ghost use Rattle.transparency.specs.Bytes.{flat_load_after, flat_store_after, zva_after};
 
 /// The claim for every history, as `specs/Claim.antt` states it: at each step of every list of calls, whatever RAM is,
 /// each translation of a settled page is answered as by the core without a cache, and where all pages of a step are
@@ -139,8 +139,8 @@ pub fn every_census()
 {}
 
 /// What a count means: how many pages the core without a cache answers with that fault; that a page under a permission
-/// byte is answered with an address just where the byte has the bit; that a flat page is its own address. Rules out a
-/// page counted under another status, or twice.
+/// byte is answered with an address just where the byte has the bit; that a flat page is answered with its flat address.
+/// Rules out a page counted under another status, or twice.
 pub fn census_meaning()
     ensures faults { census_faults }
     ensures rights { rights_allow }
@@ -247,12 +247,15 @@ pub fn counter_moves()
 {}
 
 /// Byte i of a load or a store, split or not, lies at the translation of its own address, no other byte changes, and a
-/// zeroing that is done leaves 64 zero bytes. Rules out a byte of the next page taken from the first frame, and a
-/// zeroing of fewer bytes or of the wrong line.
+/// zeroing that is done leaves 64 zero bytes; with stage 1 off an access lies whole from its first byte's translation
+/// on. Rules out a byte of the next page taken from the first frame, a flat access that is split or judged by its last
+/// byte, and a zeroing of fewer bytes or of the wrong line.
 pub fn every_byte()
     ensures flat { AfterEveryRun flat_after }
     ensures load { load_byte_after }
     ensures store { store_byte_after }
     ensures others { store_others_after }
+    ensures flat_loaded { flat_load_after }
+    ensures flat_stored { flat_store_after }
     ensures zeroing { zva_after }
 {}

@@ -1,29 +1,36 @@
 -- Every fresh answer is flat, a leaf within its bounds or a status of the table of answers.
-use Rattle.std.specs.Prelude.{if◌then◌else◌, ◌≡◌, Bool, ℕ, Option, Ok, Err}
-use Rattle.std.proofs.Common.{subst}
+use Rattle.std.specs.Prelude.{if◌then◌else◌, ◌≡◌, refl, Bool, ℕ, Option, Some, None, Ok, Err}
+use Rattle.std.proofs.Common.{subst, arith}
 use Rattle.std.proofs.Math.Bool.{true, false}
 use Rattle.walk.specs.Regime.{stage1_on}
 use Rattle.walk.specs.Tag.{untagged}
 use Rattle.walk.specs.Walk.{walk_of}
-use Rattle.walk.specs.Fresh.{fresh_of}
+use Rattle.walk.specs.Flat.{flat_by}
+use Rattle.walk.specs.Fresh.{flat_end, fresh_of}
+use Rattle.walk.specs.Table.{address_size}
 use Rattle.walk.specs.WalkBounds.{LeafBounds, SoundWalked, SoundEnd, SoundFresh}
 use Rattle.walk.proofs.WalkBounds.{walk-sound}
 use Rattle.walk.specs.declared.{regime.Regime.Regime, regime.Bank.Bank, level.Leaf.Leaf, fresh.Fresh.Fresh}
-use Rattle.walk.specs.declared.fresh.Fresh.TheVariants.{Flat, Ended}
+use Rattle.walk.specs.declared.fresh.Fresh.TheVariants.{Ended}
 use Rattle.walk.specs.Answers.{Walked}
 
 walk_end : (va : ℕ) (w : Walked) → SoundWalked va w → SoundEnd w
 walk_end va (Ok leaf) h = h.0
 walk_end va (Err n) h = h
 
+-- a flat address that is too large has a status of the table too
+flat-sound : (o : Option ℕ) → SoundFresh (flat_end o)
+flat-sound (Some pa) = tt
+flat-sound None = record { fault = address_size 0; level = omega arith; code = refl }
+
 module _ (s : Bank) (r : Regime) (va : ℕ) (memory : ℕ → Option ℕ) where
   pub answer-sound : SoundFresh (fresh_of s r va memory)
   unfolding fresh_of
   answer-sound = go (stage1_on s r)
     where
-      go : (b : Bool) → SoundFresh (if b then Ended (walk_of s r (untagged s.tcr r va) memory) else Flat va)
+      go : (b : Bool) → SoundFresh (if b then Ended (walk_of s r (untagged s.tcr r va) memory) else flat_end (flat_by (untagged s.tcr r va)))
       go true = walk_end _ (walk_of s r (untagged s.tcr r va) memory) (walk-sound s r (untagged s.tcr r va) memory)
-      go false = tt
+      go false = flat-sound (flat_by (untagged s.tcr r va))
 
   pub is-sound : (x : Fresh) → x ≡ fresh_of s r va memory → SoundFresh x
   is-sound x e = rw e answer-sound
@@ -33,11 +40,11 @@ module _ (s : Bank) (r : Regime) (va : ℕ) (memory : ℕ → Option ℕ) where
   fresh-leaf x w leaf e x-is w-is = subst SoundEnd w-is (subst SoundFresh x-is (is-sound x e))
 
 module _ (s : Bank) (r : Regime) (va : ℕ) (memory : ℕ → Option ℕ) where
-  -- stage 1 on: the walk of the untagged address; off: the address
+  -- stage 1 on: the walk of the untagged address; off: that address, or too large
   pub fresh_on : stage1_on s r ≡ true → fresh_of s r va memory ≡ Ended (walk_of s r (untagged s.tcr r va) memory)
   unfolding fresh_of
   fresh_on e = rw e
 
-  pub fresh-off : stage1_on s r ≡ false → fresh_of s r va memory ≡ Flat va
+  pub fresh-off : stage1_on s r ≡ false → fresh_of s r va memory ≡ flat_end (flat_by (untagged s.tcr r va))
   unfolding fresh_of
   fresh-off e = rw e

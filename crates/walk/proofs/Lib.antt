@@ -4,6 +4,7 @@ pub mod Loop
 pub mod Visiting
 pub mod WalkBounds
 pub mod FreshLaws
+pub mod FlatLaws
 pub mod PageLaws
 pub mod Order
 pub mod Numbers

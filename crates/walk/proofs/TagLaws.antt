@@ -2,7 +2,7 @@
 use Rattle.std.specs.Prelude.{if◌then◌else◌, ◌≡◌, refl, Bool, true, false, ℕ, zero, suc, ◌+◌, ◌-◌, ◌*◌, ◌/◌, ◌%◌, ◌^◌, ◌≤◌, ◌<◌}
 use Rattle.std.proofs.Common.{sym, ap, ◌∙◌, arith, shr-shr}
 use Rattle.std.proofs.Math.Nat.{zero-div}
-use Rattle.word.specs.Bits.{bit_on}
+use Rattle.word.specs.Bits.{bit_on, wrap}
 use Rattle.word.proofs.BitLaws.{same_above}
 use Rattle.walk.specs.Tag.{tbi, sign_extend56, tag_dropped, untagged}
 use Rattle.walk.specs.declared.regime.Regime.{Regime}
@@ -121,3 +121,36 @@ untagged-page tcr r va vb e = rw same (go (tbi tcr r vb))
     go : (t : Bool) → (if t then tag_dropped r va else va) / 2 ^ 12 ≡ (if t then tag_dropped r vb else vb) / 2 ^ 12
     go true = page r va vb e
     go false = e
+
+-- BYTES: where the untagged address and i below it fit in 44 bits, i counts in the address itself
+
+-- the low 56 bits, with or without a tag
+low-sum : (r : Regime) (va i : ℕ) → tag_dropped r va + i < 2 ^ 44 → va % 2 ^ 56 + i < 2 ^ 44
+low-sum El1 va i h = omega arith
+low-sum El2 va i h = omega arith
+low-sum El3 va i h = omega arith
+
+no-carry : (va i : ℕ) → va < 2 ^ 64 → va % 2 ^ 56 + i < 2 ^ 44 → wrap (va + i) ≡ va + i
+no-carry va i h k = omega arith
+
+same-high : (va i : ℕ) → va % 2 ^ 56 + i < 2 ^ 44 → (va + i) / 2 ^ 55 % 2 ≡ va / 2 ^ 55 % 2
+same-high va i k = omega arith
+
+dropped-plus : (r : Regime) (va i : ℕ) → va % 2 ^ 56 + i < 2 ^ 44 → tag_dropped r (va + i) ≡ tag_dropped r va + i
+dropped-plus El1 va i k = rw (same-high va i k) (omega arith)
+dropped-plus El2 va i k = omega arith
+dropped-plus El3 va i k = omega arith
+
+pub untagged-plus : (tcr : ℕ) (r : Regime) (va i : ℕ) → va < 2 ^ 64 → untagged tcr r va + i < 2 ^ 44
+    → untagged tcr r (wrap (va + i)) ≡ untagged tcr r va + i
+unfolding untagged
+untagged-plus tcr r va i h = go (tbi tcr r va) refl
+  where
+    by : (t : Bool) → tbi tcr r va ≡ t → va % 2 ^ 56 + i < 2 ^ 44
+        → (if tbi tcr r (wrap (va + i)) then tag_dropped r (wrap (va + i)) else wrap (va + i)) ≡ (if t then tag_dropped r (va + i) else va + i)
+    by t e k = rw (no-carry va i h k, same-tbi tcr r (va + i) va (same-high va i k), e)
+
+    go : (t : Bool) → tbi tcr r va ≡ t → (if t then tag_dropped r va else va) + i < 2 ^ 44
+        → (if tbi tcr r (wrap (va + i)) then tag_dropped r (wrap (va + i)) else wrap (va + i)) ≡ (if t then tag_dropped r va else va) + i
+    go true e k = by true e (low-sum r va i k) ∙ dropped-plus r va i (low-sum r va i k)
+    go false e k = by false e (omega arith)

@@ -7,6 +7,7 @@ pub mod Descriptor
 pub mod Permission
 pub mod Table
 pub mod Walk
+pub mod Flat
 pub mod Fresh
 -- What `theorems` says of levels, and worked cases.
 pub mod Cases

@@ -1,6 +1,6 @@
 -- What `theorems` says of a walk in numbers: the bits of addresses and descriptors at each level, by granule. Each statement has the numbers as arguments;
 -- `theorems::addresses_of_levels` gives them.
-use Rattle.std.specs.Prelude.{◌≡◌, Bool, true, false, List, [], ◌∷◌, ℕ, ◌+◌, ◌-◌, ◌*◌, ◌%◌, ◌^◌, ◌≤◌, Option, Ok}
+use Rattle.std.specs.Prelude.{◌≡◌, Bool, true, false, List, [], ◌∷◌, ℕ, ◌+◌, ◌-◌, ◌*◌, ◌/◌, ◌%◌, ◌^◌, ◌≤◌, ◌<◌, Option, Ok}
 use Rattle.word.specs.Places.{bits}
 use Rattle.sysreg.specs.declared.regs.Control.{Control}
 use Rattle.walk.specs.Permission.{permission_byte}
@@ -97,3 +97,7 @@ byte_of singlepriv wxn desc =
 -- TCR of 0, TBI0, TBI1 and TBI
 abbrev pub tags : List ℕ
 tags = 0 ∷ 0x20_0000_0000 ∷ 0x40_0000_0000 ∷ 0x10_0000 ∷ []
+
+-- a fact of every two addresses of one page, under each TCR and regime
+abbrev pub EachFlatPage : (ℕ → Regime → ℕ → ℕ → Type 0) → Type 0
+EachFlatPage P = (tcr : ℕ) (r : Regime) (va vb : ℕ) → va < 2 ^ 64 → vb < 2 ^ 64 → va / 2 ^ 12 ≡ vb / 2 ^ 12 → P tcr r va vb

@@ -64,9 +64,7 @@ tge s = bit_on s.hcr_el2 27
 abbrev pub dc : Bank → Bool
 dc s = bit_on s.hcr_el2 12
 
--- stage 1 is on by SCTLR_ELx.M; in Non-secure state TGE and DC turn that of EL1&0 off. M3, M4: HCR_EL2.VM, and DC, would turn stage 2 on there.
--- A3, A4: with stage 1 off AArch64.TranslateAddressS1Off would fault an address beyond the implemented size and drop a tag; the address itself is
--- the answer here
+-- stage 1 is on by SCTLR_ELx.M; in Non-secure state TGE and DC turn that of EL1&0 off. M3, M4: HCR_EL2.VM, and DC, would turn stage 2 on there
 abbrev pub stage1_on : Bank → Regime → Bool
 stage1_on s El1 = mmu_on s && not (non_secure s && (tge s || dc s))
 stage1_on s El2 = mmu_on s

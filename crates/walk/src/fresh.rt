@@ -3,10 +3,12 @@ ghost use Rattle.std.specs.Prelude.{◌≡◌};
 ghost use Rattle.word.specs.Ram.{word_at};
 ghost use Rattle.walk.specs.Fresh.{fresh_of};
 
+use crate::flat;
+use crate::fsc::FSC_ADDR_SIZE;
 use crate::level::Walked;
 use crate::regime::{Bank, Regime};
 
-/// With stage 1 off a physical address; with it on, as the walk ends.
+/// A physical address, or as its walk ends. With stage 1 off an address that is too large ends in a fault of level 0.
 #[derive(Clone, Copy)]
 pub enum Fresh {
     Flat(u64),
@@ -19,10 +21,14 @@ impl Bank {
     pub fn fresh(self, regime: Regime, va: u64, base: u64, ram: &[u8]) -> Fresh
         ensures { result ≡ fresh_of self regime va (word_at base ram.now 8) }
     {
+        let untagged = self.untag(regime, va);
         if self.stage1_on(regime) {
-            Fresh::Ended(self.walk(regime, self.untag(regime, va), base, ram))
+            Fresh::Ended(self.walk(regime, untagged, base, ram))
         } else {
-            Fresh::Flat(va)
+            match flat::flat_of(untagged) {
+                Some(pa) => Fresh::Flat(pa),
+                None => Fresh::Ended(Err(FSC_ADDR_SIZE)),
+            }
         }
     }
 }

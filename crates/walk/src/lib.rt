@@ -1,6 +1,7 @@
 #![tactic(auto)]
 // Stage 1 of VMSAv8-64: the address leaves and the translation table walk. Nothing here keeps state.
 pub mod descriptor;
+pub mod flat;
 pub mod fresh;
 pub mod fsc;
 pub mod level;

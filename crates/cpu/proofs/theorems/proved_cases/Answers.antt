@@ -1,5 +1,5 @@
-use Rattle.cpu.specs.Cases.{proved-cases}
+use Rattle.cpu.specs.Cases.{proved-cases, flat-cases}
 use Rattle.cpu.proofs.theorems.proved_cases.Goals as goal
 
 pub returns : goal.returns
-returns c = record { answers = proved-cases }
+returns c = record { answers = proved-cases; flat = flat-cases }

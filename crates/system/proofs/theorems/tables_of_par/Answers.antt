@@ -36,4 +36,4 @@ returns-clause-rights c = record {
 pub returns-clause-failures : goal.returns-clause-failures
 unfolding at_par par_in fresh_of leaf_par success abort walk_of table_walk walk_range walk_from lookup_next level_next leaf_result
     leaf_translation leaf_permissions table_next descaddr range_of params_of pa_size untagged word_at little_endian bytes_of
-returns-clause-failures c = record { denied = refl; invalid = refl; too_far = refl; not_accessed = refl; outside = refl }
+returns-clause-failures c = record { denied = refl; invalid = refl; too_far = refl; not_accessed = refl; flat_last = refl; flat_too_large = refl; outside = refl }
