@@ -13,17 +13,20 @@ use operations::place::{FaultAt, Pages, Place};
 use operations::{ends, lookup, place};
 use tlb::access::{Kind, Request};
 use tlb::hint::FetchHint;
+use walk::regime::{Bank, Regime};
 use word::ram::Width;
 
 impl Core {
-    // An access as the core makes it.
+    // An access as the core makes it. The level is read once, for the regime's registers and for the rights.
     #[inline(always)]
     fn request(&self, va: u64, kind: Kind) -> Request
         ensures { result ≡ record { bank = bank_now self.now; privilege = self.now.privilege; va = va; kind = kind } }
     {
+        let privilege = self.privilege;
+        let bank = Bank::new(&self.control, Regime::of_level(privilege.level));
         Request {
-            bank: self.bank(),
-            privilege: self.privilege,
+            bank,
+            privilege,
             va,
             kind,
         }

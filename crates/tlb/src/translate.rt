@@ -44,18 +44,15 @@ impl Tlb {
         ensures after { AfterHanded (asked a (word_at base ram.now 8)) self.old result self.new }
     {
         let regime = Regime::of_level(a.privilege.level);
-        if !a.bank.stage1_on(regime) {
-            self.leave_hint(a, Ok(a.va));
-            return Some(Ok(a.va));
-        }
-        let va = a.bank.untag(regime, a.va);
-        if let Some(e) = self.get(access::tag_of(regime, va)) {
+        let mut answer = Ok(a.va);
+        if a.bank.stage1_on(regime) {
+            let va = a.bank.untag(regime, a.va);
+            let e = self.get(access::tag_of(regime, va))?;
             self.count_hit(a.privilege.level);
-            let answer = e.judge(a.privilege.is_user(regime, a.kind), a.kind, a.va);
-            self.leave_hint(a, answer);
-            return Some(answer);
+            answer = e.judge(a.privilege.is_user(regime, a.kind), a.kind, a.va);
         }
-        None
+        self.leave_hint(a, answer);
+        Some(answer)
     }
 
     /// A translation by a walk, whatever is at hand: where a walk is needed, the translation. A leaf becomes an entry and
