@@ -15,6 +15,7 @@ use fault::Fault;
 use tlb::access::{Kind, Request};
 use tlb::hint::FetchHint;
 use walk::fsc::FSC_EXTERNAL;
+use walk::regime::{Bank, Regime};
 use word::ram::Width;
 
 // An external abort's.
@@ -31,14 +32,16 @@ fn data_abort(addr: u64, write: bool, fault: Fault) -> Stop
 }
 
 impl Core {
-    // An access as the core makes it.
+    // An access as the core makes it. The level is read once, for the regime's registers and for the rights.
     #[inline(always)]
     fn request(&self, va: u64, kind: Kind) -> Request
         ensures { result ≡ record { bank = bank_now self.now; privilege = self.now.privilege; va = va; kind = kind } }
     {
+        let privilege = self.privilege;
+        let bank = Bank::new(&self.control, Regime::of_level(privilege.level));
         Request {
-            bank: self.bank(),
-            privilege: self.privilege,
+            bank,
+            privilege,
             va,
             kind,
         }

@@ -16,7 +16,7 @@ use Rattle.tlb.specs.Answers.{Outcome}
 use Rattle.tlb.proofs.FlatLaws.{flat-fits, flat-given}
 use Rattle.tlb.specs.Model.{Slot, empty, holds, Line, Known, Model, one_hit, one_walk, same_regime, folded, hint_place, Access, as_user, need, reach_of}
 use Rattle.tlb.specs.Model.{reaches, serving, line_for, address_in, judge as judgeLine, line_of_leaf, walked, looked, unhinted, known_of, noting, noted, knowing}
-use Rattle.tlb.specs.Model.{tried, hinted, hintable, translate, noting_fetch, noted_fetch, fetched, fetch}
+use Rattle.tlb.specs.Model.{tried, keep_hint, keep_fetch, hinted, hintable, translate, fetch}
 use Rattle.tlb.specs.declared.access.Kind.{Kind}
 use Rattle.tlb.specs.Answers.{Answer}
 use Rattle.tlb.specs.declared.access.Kind.TheVariants.{Read, Write, Fetch}
@@ -240,11 +240,11 @@ module _ (w : World) where
           go true o = look-done o (t.lines (page_now w c va % 1024)) (s.lines_ok (page_now w c va % 1024))
 
       -- a data translation that came out sets a hint that holds
-      hint-done : hintable k c.privilege.unprivileged ≡ true → (o : Outcome Model) → Fine o → Fine (noted a o)
+      hint-done : hintable k c.privilege.unprivileged ≡ true → (o : Outcome Model) → Fine o → Fine (noted (keep_hint (hint_place k va)) a o)
       unfolding noted
       hint-done b o d = record { traced = go o.answer refl; answered = d.answered }
         where
-          go : (x : Answer) → o.answer ≡ x → Traced w h c.regs (noting x a o.after)
+          go : (x : Answer) → o.answer ≡ x → Traced w h c.regs (noting (keep_hint (hint_place k va)) x a o.after)
           go (Err f) e = d.traced
           go (Ok pa) e =
               traced-hint w (hint_place k va) (known_of a pa)
@@ -261,12 +261,12 @@ module _ (w : World) where
           hint-answered laws h c m k va n.frame u (rw (p, l) at o)
 
       tried-done : hintable k c.privilege.unprivileged ≡ true → (x : Slot Known) → HintOk w h c.regs k x
-          → Fine (tried (knowing (va / 4096) c.privilege.level x) a t)
+          → Fine (tried (knowing (va / 4096) c.privilege.level x) (keep_hint (hint_place k va)) a t)
       unfolding tried
       tried-done b empty ok = hint-done b _ unhinted-done
       tried-done b (holds n) ok = go (hits n) refl
         where
-          go : (d : Bool) → hits n ≡ d → Fine (tried (if d then holds n.frame else empty) a t)
+          go : (d : Bool) → hits n ≡ d → Fine (tried (if d then holds n.frame else empty) (keep_hint (hint_place k va)) a t)
           go true e = record { traced = s; answered = hit-done (inr (hint-unmarked k c.privilege.unprivileged b)) n ok e }
           go false e = hint-done b _ unhinted-done
 
@@ -280,31 +280,31 @@ module _ (w : World) where
               tried-done b (t.hints (hint_place k va))
               (rw (kind-at k c.privilege.unprivileged va b) at (s.hints-ok (hint_place k va)))
 
-      fetch-tried : k ≡ Fetch → (x : Slot Known) → HintOk w h c.regs k x → Fine (fetched (knowing (va / 4096) c.privilege.level x) a t)
-      unfolding fetched noted_fetch
+      fetch-tried : k ≡ Fetch → (x : Slot Known) → HintOk w h c.regs k x → Fine (tried (knowing (va / 4096) c.privilege.level x) keep_fetch a t)
+      unfolding tried noted
       fetch-tried f x ok = go x ok
         where
           d : Fine (unhinted (on_now w c) a t)
           d = unhinted-done
 
-          put : (y : Answer) → (unhinted (on_now w c) a t).answer ≡ y → Traced w h c.regs (noting_fetch y a (unhinted (on_now w c) a t).after)
+          put : (y : Answer) → (unhinted (on_now w c) a t).answer ≡ y → Traced w h c.regs (noting keep_fetch y a (unhinted (on_now w c) a t).after)
           put (Err f) e = d.traced
           put (Ok pa) e =
               traced-fetch-hint w (known_of a pa) (rw f at (answered-hint laws h c m k va pa (inl f) (rw e at d.answered))) d.traced
 
-          miss : Fine (noted_fetch a (unhinted (on_now w c) a t))
+          miss : Fine (noted keep_fetch a (unhinted (on_now w c) a t))
           miss = record { traced = put _ refl; answered = d.answered }
 
-          go : (y : Slot Known) → HintOk w h c.regs k y → Fine (fetched (knowing (va / 4096) c.privilege.level y) a t)
+          go : (y : Slot Known) → HintOk w h c.regs k y → Fine (tried (knowing (va / 4096) c.privilege.level y) keep_fetch a t)
           go empty o = miss
           go (holds n) o = hit (hits n) refl
             where
-              hit : (b : Bool) → hits n ≡ b → Fine (fetched (if b then holds n.frame else empty) a t)
+              hit : (b : Bool) → hits n ≡ b → Fine (tried (if b then holds n.frame else empty) keep_fetch a t)
               hit true e = record { traced = s; answered = hit-done (inl f) n o e }
               hit false e = miss
 
       pub fetch-done : k ≡ Fetch → Fine (fetch a t)
       unfolding fetch
       fetch-done f =
-          subst (λ (x : Access). Fine (fetched (knowing (va / 4096) c.privilege.level t.fetch) x t)) (λ i. record a { kind = f i })
+          subst (λ (x : Access). Fine (tried (knowing (va / 4096) c.privilege.level t.fetch) keep_fetch x t)) (λ i. record a { kind = f i })
           (fetch-tried f t.fetch (rw (sym f) at s.fetch-ok))

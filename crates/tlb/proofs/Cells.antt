@@ -11,7 +11,7 @@ use Rattle.walk.specs.declared.regime.Regime.{Regime}
 use Rattle.walk.specs.declared.regime.Regime.TheVariants.{El1, El2, El3}
 use Rattle.tlb.specs.Entry.{serves, untagged, span_of, page_dropped, asid_dropped}
 use Rattle.tlb.specs.Hint.{on_page, hint_key, hint_for, fetch_serves, fetch_for}
-use Rattle.tlb.specs.Access.{is_fetch, may_hint, regime_number, if_two_ranges, user_of, right_of, has_right, judged}
+use Rattle.tlb.specs.Access.{may_hint, regime_number, user_of, right_of, has_right, judged}
 use Rattle.tlb.specs.Model.{Slot, empty, holds, Line, reach_of, reaches, belongs_to, span_bits, covers, uncovered, same_regime, serving, knowing, Access}
 use Rattle.tlb.specs.Model.{as_user, need, need_in, judge, hintable}
 use Rattle.tlb.specs.Live.{line_in, tagged, line_of, hint_of, fetch_hint_of, Made}
@@ -121,13 +121,12 @@ pub or-level : (l : ℕ) → l ≤ 3 → bit_or 12 l ≡ 12 + l
 or-level l h = or_shifted 3 2 l (omega arith)
 
 user-is : (r : Regime) (level : ℕ) (mark : Bool) (k : Kind)
-    → if_two_ranges r (level == 0 || (mark && not (is_fetch k))) ≡ as_user r level mark k
+    → user_of r (record { level = level; unprivileged = mark }) k ≡ as_user r level mark k
 user-is El1 zero mark k = refl
 user-is El1 (suc n) mark Read = rw (eqb-suc-zero n, and-true)
 user-is El1 (suc n) mark Write = rw (eqb-suc-zero n, and-true)
 user-is El1 (suc n) mark Fetch = rw (eqb-suc-zero n, and-false)
-user-is El2 level mark k = refl
-user-is El3 level mark k = refl
+user-is r level mark k = refl
 
 right_is : (k : Kind) (user : Bool) (perms : ℕ) → has_right perms (right_of k user) ≡ (perms / need k user % 2 == 1)
 right_is Read true perms = refl

@@ -4,7 +4,7 @@ use Rattle.std.proofs.Math.Path.{refl}
 use Rattle.std.proofs.Common.{sym, ◌∙◌, arith, ne_eqb}
 use Rattle.tlb.specs.Model.{Slot, empty, holds, Line, Counters, Model, up, up_at, one_walk, line_for, keep, hint_place, knowing, Access}
 use Rattle.tlb.specs.Model.{walked}
-use Rattle.tlb.specs.Model.{looked, unhinted, noting, noted, tried, hinted, hintable, translate, as_fetch, noting_fetch, noted_fetch, fetched, fetch}
+use Rattle.tlb.specs.Model.{Known, keep_hint, keep_fetch, known_of, looked, unhinted, noting, noted, tried, hinted, hintable, translate, as_fetch, fetch}
 use Rattle.tlb.specs.Answers.{Answer}
 use Rattle.walk.specs.Answers.{Walked}
 use Rattle.tlb.specs.Counting.{How, hint_answered, itself, line_answered, walk_answered, how_counted, how_looked, how_unhinted, how_tried, how_hinted}
@@ -27,35 +27,28 @@ module _ (a : Access) (m : Model) where
   miss-counts true = look-counts (line_for m a.regime (a.untagged / 4096))
   miss-counts false = refl
 
-  note-counts : (x : Answer) (n : Model) → (noting x a n).counts ≡ n.counts
-  note-counts (Ok pa) n = refl
-  note-counts (Err f) n = refl
+  -- a hint that is noted counts nothing
+  module _ (note : Known → Model → Model) (still : (h : Known) (n : Model) → (note h n).counts ≡ n.counts) where
+    note-counts : (x : Answer) (n : Model) → (noting note x a n).counts ≡ n.counts
+    note-counts (Ok pa) n = still (known_of a pa) n
+    note-counts (Err f) n = refl
 
-  note-fetch-counts : (x : Answer) (n : Model) → (noting_fetch x a n).counts ≡ n.counts
-  note-fetch-counts (Ok pa) n = refl
-  note-fetch-counts (Err f) n = refl
-
-  try-counts : (h : Slot ℕ) → (tried h a m).after.counts ≡ how_counted (how_tried h (how_unhinted a m)) a.privilege.level m.counts
-  unfolding tried noted
-  try-counts (holds frame) = refl
-  try-counts empty = note-counts (unhinted a.on a m).answer (unhinted a.on a m).after ∙ miss-counts a.on
-
-  try-fetch-counts : (h : Slot ℕ) → (fetched h a m).after.counts ≡ how_counted (how_tried h (how_unhinted a m)) a.privilege.level m.counts
-  unfolding fetched noted_fetch
-  try-fetch-counts (holds frame) = refl
-  try-fetch-counts empty = note-fetch-counts (unhinted a.on a m).answer (unhinted a.on a m).after ∙ miss-counts a.on
+    try-counts : (h : Slot ℕ) → (tried h note a m).after.counts ≡ how_counted (how_tried h (how_unhinted a m)) a.privilege.level m.counts
+    unfolding tried noted
+    try-counts (holds frame) = refl
+    try-counts empty = note-counts (unhinted a.on a m).answer (unhinted a.on a m).after ∙ miss-counts a.on
 
   pub translate-counts : (translate a m).after.counts ≡ how_counted (how_translated a m) a.privilege.level m.counts
   unfolding translate hinted
   translate-counts = go (hintable a.kind a.privilege.unprivileged)
     where
       go : (b : Bool) → (hinted b a m).after.counts ≡ how_counted (how_hinted b a m) a.privilege.level m.counts
-      go true = try-counts (knowing (a.va / 4096) a.privilege.level (m.hints (hint_place a.kind a.va)))
+      go true = try-counts (keep_hint (hint_place a.kind a.va)) (λ h n. refl) (knowing (a.va / 4096) a.privilege.level (m.hints (hint_place a.kind a.va)))
       go false = miss-counts a.on
 
 pub fetch-counts : (a : Access) (m : Model) → (fetch a m).after.counts ≡ how_counted (how_fetched a m) a.privilege.level m.counts
 unfolding fetch
-fetch-counts a m = try-fetch-counts (as_fetch a) m (knowing (a.va / 4096) a.privilege.level m.fetch)
+fetch-counts a m = try-counts (as_fetch a) m keep_fetch (λ h n. refl) (knowing (a.va / 4096) a.privilege.level m.fetch)
 
 -- THE LEVEL OF THE ACCESS, AND NO OTHER
 

@@ -10,7 +10,7 @@ use Rattle.tlb.specs.Lists.{Each}
 use Rattle.tlb.proofs.Lists.{each-getD, each_set, get_d_set}
 use Rattle.tlb.specs.Live.{Follows, hint_of, hints_of, fetch_hint_of, live, Aligned, FetchAligned, WellFormed, LeafLevel}
 use Rattle.tlb.specs.Model.{Slot, empty, holds, Known, Model, folded, hint_place, knowing, keep_hint, keep_fetch, Access, known_of, unhinted, noted, tried, hinted}
-use Rattle.tlb.specs.Model.{translate, as_fetch, noted_fetch, fetched, fetch}
+use Rattle.tlb.specs.Model.{translate, as_fetch, fetch}
 use Rattle.tlb.specs.Tlb.{hint_at}
 use Rattle.tlb.specs.Translate.{miss_in, noted_in, tried_in, translation_in, fetch_noted, fetch_tried, fetch_in}
 use Rattle.tlb.specs.declared.{access.Kind.Kind, access.Privilege.Privilege, hint.Hint.Hint, hint.FetchHint.FetchHint, Tlb.Tlb}
@@ -71,14 +71,15 @@ module _ (a : Access) (low : a.privilege.level ≤ 3) where
           (hint-made a.va a.privilege.level pa low)
 
   -- an answer's hint, where one may serve
-  noted-follows : (o : Outcome Tlb) (p : Outcome Model) → may_hint a.privilege a.kind ≡ true → Follows o p → Follows (noted_in a o) (noted a p)
+  noted-follows : (o : Outcome Tlb) (p : Outcome Model) → may_hint a.privilege a.kind ≡ true → Follows o p
+      → Follows (noted_in a o) (noted (keep_hint place) a p)
   unfolding noted
   noted-follows o p may f = go o.answer refl
     where
-      go : (x : Answer) → o.answer ≡ x → Follows (noted_in a o) (noted a p)
+      go : (x : Answer) → o.answer ≡ x → Follows (noted_in a o) (noted (keep_hint place) a p)
       go (Ok pa) e =
           let pe : p.answer ≡ Ok pa = sym f.answer ∙ e in
-          rw (e, pe, may, place_is a.kind a.va) (record {
+          rw (e, pe, may) (record {
             answer = refl;
             after = hint-kept pa o.after f.well (place-low a.privilege a.kind a.va may) ∙ ap (keep_hint place (known_of a pa)) f.after;
             well = hint-well pa o.after f.well;
@@ -101,7 +102,7 @@ module _ (a : Access) (t : Tlb) (s : WellFormed t) (fits : LeafLevel a.walk) (lo
   hint = hint_at t (data_slot a.va a.kind)
 
   by-hint : may_hint a.privilege a.kind ≡ true → (b : Bool)
-      → Follows (tried_in (if b then Some (on_page hint.pa a.va) else None) a t) (tried (if b then holds (hint.pa / 4096) else empty) a (live t))
+      → Follows (tried_in (if b then Some (on_page hint.pa a.va) else None) a t) (tried (if b then holds (hint.pa / 4096) else empty) (keep_hint (data_slot a.va a.kind)) a (live t))
   unfolding tried
   by-hint may true =
       record {
@@ -139,11 +140,11 @@ module _ (a : Access) (t : Tlb) (s : WellFormed t) (fits : LeafLevel a.walk) (lo
         fetch = (omega arith, omega arith);
       }
 
-  fetch-noted : (o : Outcome Tlb) (p : Outcome Model) → Follows o p → Follows (fetch_noted a o) (noted_fetch a p)
-  unfolding noted_fetch
+  fetch-noted : (o : Outcome Tlb) (p : Outcome Model) → Follows o p → Follows (fetch_noted a o) (noted keep_fetch a p)
+  unfolding noted
   fetch-noted o p f = go o.answer refl
     where
-      go : (x : Answer) → o.answer ≡ x → Follows (fetch_noted a o) (noted_fetch a p)
+      go : (x : Answer) → o.answer ≡ x → Follows (fetch_noted a o) (noted keep_fetch a p)
       go (Ok pa) e =
           let pe : p.answer ≡ Ok pa = sym f.answer ∙ e in
           rw (e, pe) (record {
@@ -155,19 +156,19 @@ module _ (a : Access) (t : Tlb) (s : WellFormed t) (fits : LeafLevel a.walk) (lo
           let pe : p.answer ≡ Err fault = sym f.answer ∙ e in
           rw (e, pe) (record { answer = refl; after = f.after; well = f.well })
 
-  missed : Follows (fetch_tried None a t) (fetched empty a (live t))
-  unfolding fetched
+  missed : Follows (fetch_tried None a t) (tried empty keep_fetch a (live t))
+  unfolding tried
   missed = fetch-noted (miss_in a t) (unhinted a.on a (live t)) (miss-follows a t s fits low)
 
   by-serves : (f : FetchHint) → f.pa % 4096 ≡ 0 → (b : Bool)
-      → Follows (fetch_tried (if b then Some (on_page f.pa a.va) else None) a t) (fetched (if b then holds (f.pa / 4096) else empty) a (live t))
-  unfolding fetched
+      → Follows (fetch_tried (if b then Some (on_page f.pa a.va) else None) a t) (tried (if b then holds (f.pa / 4096) else empty) keep_fetch a (live t))
+  unfolding tried
   by-serves f q true = record { answer = ap Ok (on-aligned f.pa a.va q); after = refl; well = s }
   by-serves f q false = missed
 
   by-fetch : (h : Option FetchHint) → FetchAligned h
       → Follows (fetch_tried (fetch_found h a.privilege.level a.va) a t)
-      (fetched (knowing (a.va / 4096) a.privilege.level (fetch_hint_of h)) a (live t))
+      (tried (knowing (a.va / 4096) a.privilege.level (fetch_hint_of h)) keep_fetch a (live t))
   unfolding fetch_hint_of
   by-fetch None q = missed
   by-fetch (Some f) q = rw (fetch-known-is f a.va a.privilege.level q.0) (by-serves f q.1 (fetch_serves f a.privilege.level a.va))

@@ -1,7 +1,7 @@
 -- Worked runs, by computation on the cache and on the plain model.
 use Rattle.std.specs.Prelude.{refl}
 use Rattle.tlb.specs.Model.{folded, keep, line_for, judge, walked, looked, unhinted, noted, tried, hinted, translate, invalidate, retag, broadcast}
-use Rattle.tlb.specs.Model.{noted_fetch, fetched, fetch}
+use Rattle.tlb.specs.Model.{fetch}
 use Rattle.tlb.specs.Entry.{page_dropped, asid_dropped}
 use Rattle.tlb.specs.Hint.{place_of}
 use Rattle.tlb.specs.Count.{no_tallies}
@@ -39,7 +39,7 @@ unfolding run model_run translate hinted tried noted unhinted looked walked judg
 worked-rights = ((refl, refl, refl, refl, refl, refl), (refl, refl, refl, refl, refl, refl))
 
 pub worked-fetches : WorkedFetches
-unfolding run model_run translate fetch fetched noted_fetch hinted tried noted unhinted looked walked judge keep line_for invalidate folded
+unfolding run model_run translate fetch hinted tried noted unhinted looked walked judge keep line_for invalidate folded
     drop_asid_of retag_of asid_dropped invalidate_of
     miss_in walked_in get_of put_of judged place_of blanks no_hints no_tallies
 worked-fetches = record { cache = refl; model = refl }

@@ -19,9 +19,8 @@ abbrev pub kind_at : ℕ → Result Kind NoSuchKind
 kind_at n = if eqb n 1 then Ok Read else if eqb n 2 then Ok Write else if eqb n 4 then Ok Fetch else Err (record { 0 = n })
 
 abbrev pub is_fetch : Kind → Bool
-is_fetch Read = false
-is_fetch Write = false
 is_fetch Fetch = true
+is_fetch kind = false
 
 -- hints serve reads and writes, and not while the mark holds
 abbrev pub may_hint : Privilege → Kind → Bool
@@ -32,18 +31,10 @@ regime_number El1 = 1
 regime_number El2 = 2
 regime_number El3 = 3
 
-abbrev pub if_two_ranges : Regime → Bool → Bool
-if_two_ranges El1 b = b
-if_two_ranges El2 b = false
-if_two_ranges El3 b = false
-
--- at EL0, or under the mark unless it is a fetch
-abbrev pub counts_as_user : Privilege → Kind → Bool
-counts_as_user privilege kind = privilege.level == 0 || (privilege.unprivileged && not (is_fetch kind))
-
--- in regime 1 alone
+-- in regime 1 alone: at EL0, or under the mark unless it is a fetch
 abbrev pub user_of : Regime → Privilege → Kind → Bool
-user_of r privilege kind = if_two_ranges r (counts_as_user privilege kind)
+user_of El1 privilege kind = privilege.level == 0 || (privilege.unprivileged && not (is_fetch kind))
+user_of r privilege kind = false
 
 -- the untagged page times 4 plus the regime
 abbrev pub tag_of : Regime → ℕ → ℕ

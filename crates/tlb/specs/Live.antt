@@ -15,14 +15,7 @@ use Rattle.walk.specs.Answers.{Walked}
 -- what an entry says of its page, in the regime r
 abbrev pub line_in : Regime → Entry → Line
 line_in r e =
-    record {
-      page = e.tag / 4;
-      regime = r;
-      frame = e.pa / 4096;
-      perms = e.perms;
-      level = e.level;
-      reach = reach_of e.global e.asid;
-    }
+    record { page = e.tag / 4; regime = r; frame = e.pa / 4096; perms = e.perms; level = e.level; reach = reach_of e.global e.asid }
 
 -- the low two bits of a tag are the regime; no access has a tag with 0 there
 abbrev pub tagged : ℕ → Entry → Slot Line

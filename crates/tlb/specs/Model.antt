@@ -74,24 +74,23 @@ abbrev pub up_at : ℕ → (ℕ → ℕ) → ℕ → ℕ
 up_at level f l = if l == level then up (f l) else f l
 
 abbrev pub one_hit : ℕ → Counters → Counters
-one_hit level k = record { hits = up_at level k.hits; walks = k.walks; flushes = k.flushes; drops = k.drops; epoch = k.epoch }
+one_hit level k = record k { hits = up_at level k.hits }
 
 abbrev pub one_walk : ℕ → Counters → Counters
-one_walk level k = record { hits = k.hits; walks = up_at level k.walks; flushes = k.flushes; drops = k.drops; epoch = k.epoch }
+one_walk level k = record k { walks = up_at level k.walks }
 
 abbrev pub one_flush : Counters → Counters
-one_flush k = record { hits = k.hits; walks = k.walks; flushes = up k.flushes; drops = k.drops; epoch = k.epoch }
+one_flush k = record k { flushes = up k.flushes }
 
 abbrev pub one_drop : Counters → Counters
-one_drop k = record { hits = k.hits; walks = k.walks; flushes = k.flushes; drops = up k.drops; epoch = k.epoch }
+one_drop k = record k { drops = up k.drops }
 
 abbrev pub one_epoch : Counters → Counters
-one_epoch k = record { hits = k.hits; walks = k.walks; flushes = k.flushes; drops = k.drops; epoch = up k.epoch }
+one_epoch k = record k { epoch = up k.epoch }
 
 -- the model with other counters
 abbrev pub counting : (Counters → Counters) → Model → Model
-counting f m =
-    record m { counts = f m.counts }
+counting f m = record m { counts = f m.counts }
 
 -- INVALIDATION
 
@@ -125,26 +124,11 @@ inval_counted (Asid a) k = one_epoch k
 -- the lines that it covers go, and every hint
 unfoldable pub invalidate : Inval → Model → Model
 invalidate what m =
-    record {
-      asid = m.asid;
-      lines = λ i. uncovered what (m.lines i);
-      hints = λ i. empty;
-      fetch = empty;
-      counts = inval_counted what m.counts;
-      pending = m.pending;
-    }
+    record m { lines = λ i. uncovered what (m.lines i); hints = λ i. empty; fetch = empty; counts = inval_counted what m.counts }
 
 -- another ASID in force: every hint goes
 unfoldable pub retag : ℕ → Model → Model
-retag a m =
-    record {
-      asid = a;
-      lines = m.lines;
-      hints = λ i. empty;
-      fetch = empty;
-      counts = one_epoch m.counts;
-      pending = m.pending;
-    }
+retag a m = record m { asid = a; hints = λ i. empty; fetch = empty; counts = one_epoch m.counts }
 
 -- both All, Pages of one number, or Asids of one number
 abbrev pub equal : Inval → Inval → Bool
@@ -159,8 +143,7 @@ joined empty what = holds what
 joined (holds earlier) what = holds (if equal earlier what then earlier else All)
 
 unfoldable pub broadcast : Inval → Model → Model
-broadcast what m =
-    record m { pending = joined m.pending what }
+broadcast what m = record m { pending = joined m.pending what }
 
 -- LINES
 
@@ -184,8 +167,7 @@ unfoldable pub line_for : Model → Regime → ℕ → Slot Line
 line_for m r p = serving m.asid r p (m.lines (p % 1024))
 
 unfoldable pub keep : Line → Model → Model
-keep l m =
-    record m { lines = λ i. if i == l.page % 1024 then holds l else m.lines i }
+keep l m = record m { lines = λ i. if i == l.page % 1024 then holds l else m.lines i }
 
 -- HINTS
 
@@ -209,12 +191,10 @@ knowing p l empty = empty
 knowing p l (holds h) = if h.page == p && h.level == l then holds h.frame else empty
 
 abbrev pub keep_hint : ℕ → Known → Model → Model
-keep_hint place h m =
-    record m { hints = λ i. if i == place then holds h else m.hints i }
+keep_hint place h m = record m { hints = λ i. if i == place then holds h else m.hints i }
 
 abbrev pub keep_fetch : Known → Model → Model
-keep_fetch h m =
-    record m { fetch = holds h }
+keep_fetch h m = record m { fetch = holds h }
 
 -- TRANSLATION
 
@@ -235,11 +215,9 @@ address_in frame va = Ok (frame * 4096 + va % 4096)
 -- it is judged as EL0's in regime 1, at level 0, or under the mark unless it is a fetch
 abbrev pub as_user : Regime → ℕ → Bool → Kind → Bool
 as_user El1 zero mark kind = true
-as_user El1 (suc n) mark Read = mark
-as_user El1 (suc n) mark Write = mark
 as_user El1 (suc n) mark Fetch = false
-as_user El2 level mark kind = false
-as_user El3 level mark kind = false
+as_user El1 (suc n) mark kind = mark
+as_user r level mark kind = false
 
 -- the permission bit that it needs, EL0's or the regime's own
 abbrev pub need : Kind → Bool → ℕ
@@ -299,27 +277,27 @@ unhinted false a m = record { answer = flat a.untagged; after = m }
 abbrev pub known_of : Access → ℕ → Known
 known_of a pa = record { page = a.va / 4096; level = a.privilege.level; frame = pa / 4096 }
 
-abbrev pub noting : Answer → Access → Model → Model
-noting (Ok pa) a m = keep_hint (hint_place a.kind a.va) (known_of a pa) m
-noting (Err f) a m = m
+-- what is known is noted, as a data hint or as the fetch hint
+abbrev pub noting : (Known → Model → Model) → Answer → Access → Model → Model
+noting note (Ok pa) a m = note (known_of a pa) m
+noting note (Err f) a m = m
 
-unfoldable pub noted : Access → Outcome Model → Outcome Model
-noted a o = record { answer = o.answer; after = noting o.answer a o.after }
+unfoldable pub noted : (Known → Model → Model) → Access → Outcome Model → Outcome Model
+noted note a o = record { answer = o.answer; after = noting note o.answer a o.after }
 
 -- a hint answers and changes nothing
-unfoldable pub tried : Slot ℕ → Access → Model → Outcome Model
-tried (holds frame) a m = record { answer = address_in frame a.va; after = m }
-tried empty a m = noted a (unhinted a.on a m)
+unfoldable pub tried : Slot ℕ → (Known → Model → Model) → Access → Model → Outcome Model
+tried (holds frame) note a m = record { answer = address_in frame a.va; after = m }
+tried empty note a m = noted note a (unhinted a.on a m)
 
 unfoldable pub hinted : Bool → Access → Model → Outcome Model
-hinted true a m = tried (knowing (a.va / 4096) a.privilege.level (m.hints (hint_place a.kind a.va))) a m
+hinted true a m = tried (knowing (a.va / 4096) a.privilege.level (m.hints (hint_place a.kind a.va))) (keep_hint (hint_place a.kind a.va)) a m
 hinted false a m = unhinted a.on a m
 
 -- hints serve reads and writes, and not while the mark is set
 abbrev pub hintable : Kind → Bool → Bool
-hintable Read mark = not mark
-hintable Write mark = not mark
 hintable Fetch mark = false
+hintable kind mark = not mark
 
 unfoldable pub translate : Access → Model → Outcome Model
 translate a m = hinted (hintable a.kind a.privilege.unprivileged) a m
@@ -328,16 +306,5 @@ translate a m = hinted (hintable a.kind a.privilege.unprivileged) a m
 abbrev pub as_fetch : Access → Access
 as_fetch a = record a { kind = Fetch }
 
-abbrev pub noting_fetch : Answer → Access → Model → Model
-noting_fetch (Ok pa) a m = keep_fetch (known_of a pa) m
-noting_fetch (Err f) a m = m
-
-unfoldable pub noted_fetch : Access → Outcome Model → Outcome Model
-noted_fetch a o = record { answer = o.answer; after = noting_fetch o.answer a o.after }
-
-unfoldable pub fetched : Slot ℕ → Access → Model → Outcome Model
-fetched (holds frame) a m = record { answer = address_in frame a.va; after = m }
-fetched empty a m = noted_fetch a (unhinted a.on a m)
-
 unfoldable pub fetch : Access → Model → Outcome Model
-fetch a m = fetched (knowing (a.va / 4096) a.privilege.level m.fetch) (as_fetch a) m
+fetch a m = tried (knowing (a.va / 4096) a.privilege.level m.fetch) keep_fetch (as_fetch a) m

@@ -45,18 +45,15 @@ impl Tlb {
     {
         let regime = Regime::of_level(a.privilege.level);
         let va = a.bank.untag(regime, a.va);
-        if !a.bank.stage1_on(regime) {
-            let answer = access::flat(va);
-            self.leave_hint(a, answer);
-            return Some(answer);
-        }
-        if let Some(e) = self.get(access::tag_of(regime, va)) {
+        let answer = if a.bank.stage1_on(regime) {
+            let e = self.get(access::tag_of(regime, va))?;
             self.count_hit(a.privilege.level);
-            let answer = e.judge(a.privilege.is_user(regime, a.kind), a.kind, a.va);
-            self.leave_hint(a, answer);
-            return Some(answer);
-        }
-        None
+            e.judge(a.privilege.is_user(regime, a.kind), a.kind, a.va)
+        } else {
+            access::flat(va)
+        };
+        self.leave_hint(a, answer);
+        Some(answer)
     }
 
     /// A translation by a walk, whatever is at hand: where a walk is needed, the translation. A leaf becomes an entry and
