@@ -4,7 +4,7 @@ use Rattle.std.proofs.Common.{◌≡◌, ℕ, zero, suc, ◌+◌, ◌-◌, ◌*�
 use native.Mathlib.Nat.{pow-le-pow_right}
 use Rattle.word.specs.Ram.{little_endian, within, word_at, stored}
 use Rattle.cpu.specs.Place.{byte_at, first_outside, verdict_of, bytes_before, Lie}
-use Rattle.cpu.specs.PlaceLaws.{lowest, all-inside}
+use Rattle.cpu.proofs.PlaceLaws.{lowest, all-inside}
 use Rattle.cpu.proofs.Places.{judge-on, judge-out, judge-in}
 use Rattle.cpu.specs.Bytes.{byte_in, split_value, split_stored, got_by, load_of}
 use Rattle.cpu.specs.BytesLaws.{stored-length}

@@ -21,8 +21,6 @@ pub mod Translations
 pub mod Memory
 pub mod Hand
 -- Laws that the crates above cite.
-pub mod PageLaws
-pub mod PageGiven
 pub mod Says
 pub mod Asks
 pub mod OpLaws
@@ -37,8 +35,6 @@ pub mod Registers
 pub mod System
 -- A worked case of each regime.
 pub mod SystemCases
-pub mod ZeroLaws
-pub mod ZeroLine
 pub mod ZeroMeaning
 -- The table of docs/SCOPE.md, "Where each answer is given": the checks, then the operations.
 pub mod Step

@@ -1,13 +1,8 @@
--- Laws of where an access lies: which byte is the lowest outside RAM, and on which page each byte stands.
-use Rattle.std.specs.Prelude.{if◌then◌else◌, ◌≡◌, ℕ, zero, suc, ◌+◌, ◌-◌, ◌/◌, ◌%◌, ◌^◌, ◌<◌, ◌≤◌, Bool, true, false, nat_lt, Ok, Err}
-use Rattle.std.proofs.Math.Path.{refl}
-use Rattle.std.proofs.Common.{sym, ap, arith, ltb-true, ltb-false}
-use Rattle.fault.specs.declared.Fault.{Fault}
-use Rattle.word.specs.Bits.{wrap}
+-- Which byte of an access is the lowest outside RAM.
+use Rattle.std.specs.Prelude.{◌≡◌, ℕ, ◌+◌, ◌<◌, ◌≤◌, true, false}
 use Rattle.word.specs.Ram.{within}
-use Rattle.cpu.specs.Place.{in_page, next_page, byte_at, first_outside, bytes_before}
-use Rattle.cpu.specs.declared.{place.Pages.Pages, place.FaultAt.FaultAt, place.Outside.Outside}
-use Rattle.cpu.specs.Answers.{Placed, Verdict, fault_at, outside_at}
+use Rattle.cpu.specs.Place.{byte_at}
+use Rattle.cpu.specs.declared.{place.Pages.Pages}
 
 -- the byte i is the lowest from index k on that lies outside, of n
 pub record Lowest (base len : ℕ) (p : Pages) (k n i pa : ℕ) : Type 0 where
@@ -16,94 +11,3 @@ pub record Lowest (base len : ℕ) (p : Pages) (k n i pa : ℕ) : Type 0 where
   pub at : pa ≡ byte_at p i
   pub out : within base len 1 pa ≡ false
   pub before : (j : ℕ) → k ≤ j → j < i → within base len 1 (byte_at p j) ≡ true
-
--- two answers that are one name one byte, or one fault at one address
-pub same-outside : (i pa j q : ℕ) → ◌≡◌ {A = Verdict} (Err (outside_at i pa)) (Err (outside_at j q)) → (i ≡ j) × (pa ≡ q)
-same-outside i pa j q e =
-    let o : outside_at i pa ≡ outside_at j q = cc in
-    (ap (λ (x : Outside). x.index) o, ap (λ (x : Outside). x.pa) o)
-
-pub same-fault : (a b : ℕ) (x y : Fault) → ◌≡◌ {A = Placed} (Err (fault_at a x)) (Err (fault_at b y)) → (a ≡ b) × (x ≡ y)
-same-fault a b x y e =
-    let f : fault_at a x ≡ fault_at b y = cc in
-    (ap (λ (x : FaultAt). x.addr) f, ap (λ (x : FaultAt). x.fault) f)
-
-module _ (base len : ℕ) (p : Pages) where
-  abbrev here : Bool → ℕ → ℕ → Verdict
-  here b k n = if b then first_outside base len p (k + 1) n else Err (outside_at k (byte_at p k))
-
-  abbrev Fits : ℕ → Type 0
-  Fits j = within base len 1 (byte_at p j) ≡ true
-
-  -- what holds of k and from k + 1 on holds from k on
-  from : (k j : ℕ) → k ≤ j → Fits k → (k + 1 ≤ j → Fits j) → Fits j
-  from k j h now later = go (nat_lt k j) refl
-    where
-      go : (b : Bool) → nat_lt k j ≡ b → Fits j
-      go true e = let l : k < j = ltb-true k j e in later (omega arith)
-      go false e = let l : j ≤ k = ltb-false k j e in let q : j ≡ k = omega arith in rw q now
-
-  -- where it answers a byte, that is the lowest outside
-  pub lowest : (k n i pa : ℕ) → first_outside base len p k n ≡ Err (outside_at i pa) → Lowest base len p k n i pa
-  unfolding first_outside
-  lowest k zero i pa e = let z : ◌≡◌ {A = ℕ} 0 1 = cc in absurd (omega arith)
-  lowest k (suc n) i pa e = go (within base len 1 (byte_at p k)) refl e (lowest (k + 1) n i pa)
-    where
-      go : (b : Bool) → within base len 1 (byte_at p k) ≡ b → here b k n ≡ Err (outside_at i pa)
-          → (first_outside base len p (k + 1) n ≡ Err (outside_at i pa) → Lowest base len p (k + 1) n i pa) → Lowest base len p k (suc n) i pa
-      go true t q later =
-          let l = later q in
-          let f : k + 1 ≤ i = l.first in
-          let m : i < k + 1 + n = l.last in
-          record {
-            first = omega arith;
-            last = omega arith;
-            at = l.at;
-            out = l.out;
-            before = λ j a b. from k j a t (λ c. l.before j c b);
-          }
-      go false t q later =
-          let same : k ≡ i = (same-outside _ _ _ _ q).0 in
-          let there : byte_at p k ≡ pa = (same-outside _ _ _ _ q).1 in
-          record {
-            first = omega arith;
-            last = omega arith;
-            at = rw (← same) (sym there);
-            out = rw (← there) t;
-            before = λ j a b. absurd (omega arith);
-          }
-
-  -- where it answers none, every byte lies inside
-  pub all-inside : (k n : ℕ) → first_outside base len p k n ≡ Ok tt → (j : ℕ) → k ≤ j → j < k + n → within base len 1 (byte_at p j) ≡ true
-  unfolding first_outside
-  all-inside k zero e j a b = absurd (omega arith)
-  all-inside k (suc n) e j a b = go (within base len 1 (byte_at p k)) refl e (λ q c. all-inside (k + 1) n q j c (omega arith))
-    where
-      go : (b : Bool) → within base len 1 (byte_at p k) ≡ b → here b k n ≡ Ok tt
-          → (first_outside base len p (k + 1) n ≡ Ok tt → k + 1 ≤ j → Fits j) → Fits j
-      go true t q later = from k j a t (later q)
-      go false t q later = let z : ◌≡◌ {A = ℕ} 0 1 = cc in absurd (omega arith)
-
-  -- no more bytes come before the first outside than there are
-  pub before-le : (n : ℕ) → bytes_before (first_outside base len p 0 n) n ≤ n
-  before-le n = go (first_outside base len p 0 n) refl
-    where
-      go : (d : Verdict) → first_outside base len p 0 n ≡ d → bytes_before d n ≤ n
-      go (Ok x) e = omega arith
-      go (Err out) e = let l : out.index < 0 + n = (lowest 0 n out.index out.pa e).last in omega arith
-
--- PAGES: byte i of an access to va stands at the virtual address wrap (va + i)
-
--- the bytes before the end of the page stand on it
-pub same-page : (va i : ℕ) → va < 2 ^ 64 → i < in_page va → wrap (va + i) / 4096 ≡ va / 4096
-same-page va i h k = omega arith
-
-pub same-offset : (va i : ℕ) → va < 2 ^ 64 → i < in_page va → wrap (va + i) % 4096 ≡ va % 4096 + i
-same-offset va i h k = omega arith
-
--- the next page begins with its first byte, and the others stand on it
-pub next-first : (va : ℕ) → va < 2 ^ 64 → next_page va % 4096 ≡ 0
-next-first va h = omega arith
-
-pub next-bytes : (va i : ℕ) → va < 2 ^ 64 → in_page va ≤ i → wrap (va + i) ≡ wrap (next_page va + (i - in_page va))
-next-bytes va i h k = omega arith

@@ -15,8 +15,8 @@ use Rattle.cpu.specs.Translations.{translate_in}
 use Rattle.cpu.specs.Memory.{stepped_now, translate_of}
 use Rattle.cpu.specs.OpLaws.{on_now}
 use Rattle.cpu.specs.OwnAddress.{Ready}
-use Rattle.cpu.specs.ByteMeaning.{load_byte, store_byte, store-others}
-use Rattle.cpu.specs.ZeroMeaning.{zva-zeroes}
+use Rattle.cpu.proofs.ByteMeaning.{load_byte, store_byte, store-others}
+use Rattle.cpu.proofs.ZeroMeaning.{zva-zeroes}
 use Rattle.cpu.specs.Check.{missed_of}
 use Rattle.cpu.specs.Step.{run_of, step_of}
 use Rattle.cpu.specs.declared.call.Call.TheVariants.{Translate}

@@ -18,7 +18,7 @@ use Rattle.cpu.specs.Memory.{stepped_now, translate_of, stored_by, write_after, 
 use Rattle.cpu.specs.BytesLaws.{stored-length}
 use Rattle.cpu.specs.declared.Core.{Core}
 use Rattle.cpu.specs.System.{done_with, on_stored, zero_of, zero_ram}
-use Rattle.cpu.specs.ZeroLaws.{one-located, one-ram, store_va, store-va}
+use Rattle.cpu.proofs.ZeroLaws.{one-located, one-ram, store_va, store-va}
 
 -- a translation that answers and changes nothing
 abbrev pub addressed : Core → ℕ → Translated
