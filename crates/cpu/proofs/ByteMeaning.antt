@@ -1,4 +1,4 @@
--- Proofs of what specs/ByteMeaning.antt says.
+-- What a load answers and a store leaves, byte by byte.
 use Rattle.std.specs.Prelude.{if◌then◌else◌, ◌≡◌, ℕ, zero, suc, ◌+◌, ◌-◌, ◌*◌, ◌/◌, ◌%◌, ◌^◌, ◌<◌, ◌≤◌, Bool, true, false, List, length, ◌≢◌, nat_lt}
 use Rattle.std.specs.Prelude.{slice_index, Ok, Err}
 use Rattle.std.proofs.Math.Path.{refl, ap}
@@ -11,10 +11,10 @@ use Rattle.word.proofs.RamLaws.{within_low, within-high, digit-next, byte_of, wr
 use Rattle.tlb.specs.declared.access.Kind.{Kind}
 use Rattle.tlb.specs.declared.access.Kind.TheVariants.{Read, Write}
 use Rattle.cpu.specs.Answers.{Placed, Verdict, LoadAnswer, outside_at}
-use Rattle.cpu.specs.Place.{byte_at, verdict_of, bytes_before}
+use Rattle.cpu.specs.Place.{byte_at, verdict_of, bytes_before, address_in}
 use Rattle.cpu.proofs.PlaceLaws.{all-inside}
 use Rattle.cpu.specs.Bytes.{byte_in, split_value, split_stored, value_at, load_of, store_ram}
-use Rattle.cpu.specs.BytesLaws.{address_in, stored-length, split-length}
+use Rattle.cpu.proofs.BytesLaws.{stored-length, split-length}
 use Rattle.cpu.proofs.BytesLaws.{split-leaves}
 use Rattle.cpu.specs.Ends.{load_end, store_end, store_ram_end}
 use Rattle.cpu.specs.Memory.{located_now, read_of, write_of, ram_after_write}

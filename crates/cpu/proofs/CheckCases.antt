@@ -1,4 +1,4 @@
--- Proofs of what specs/CheckCases.antt says.
+-- Parts of a range that a census allows are allowed.
 use Rattle.std.specs.Prelude.{◌≡◌, ℕ, ◌+◌, ◌*◌, ◌^◌, ◌≤◌, Bool, true, false, ◌||◌, nat_lt, refl}
 use Rattle.std.proofs.Common.{ap, arith, le-ltb, ltb-false}
 use Rattle.word.specs.Bits.{align_down, flag, wrap}

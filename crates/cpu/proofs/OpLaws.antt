@@ -1,10 +1,10 @@
--- Proofs of what specs/OpLaws.antt says.
+-- What every operation leaves as it was, and the cache and RAM after it.
 use Rattle.std.specs.Prelude.{◌≡◌, ℕ, ◌+◌, ◌<◌, List, ◌≢◌, slice_index, refl, Ok, Err}
 use Rattle.word.specs.Ram.{word_at}
 use Rattle.tlb.specs.declared.access.Kind.TheVariants.{Write}
 use Rattle.cpu.specs.Bare.{bare_of}
 use Rattle.cpu.specs.Core.{after_access}
-use Rattle.cpu.specs.BytesLaws.{address_in}
+use Rattle.cpu.specs.Place.{address_in}
 use Rattle.cpu.proofs.BytesLaws.{store-leaves}
 use Rattle.cpu.specs.Ends.{store_ram_end}
 use Rattle.cpu.specs.Memory.{located_now, translate_of, translate_access_of, read_of, write_of, ram_after_write, fetch_of, fetch_pa_of}
@@ -13,6 +13,25 @@ use Rattle.cpu.specs.declared.Core.{Core}
 use Rattle.cpu.specs.declared.place.Place.{Place}
 use Rattle.cpu.specs.Answers.{Placed}
 use Rattle.cpu.specs.OpLaws.{translate, access, load, store, fetch, fetch_pa, data_pa, Operation, operation_core}
+use Rattle.std.specs.Prelude.{length}
+use Rattle.cpu.proofs.BytesLaws.{store_length}
+use Rattle.cpu.specs.OpLaws.{operation_ram}
+
+-- RAM
+
+pub ram-length : (c : Core) (base : ℕ) (ram : List ℕ) (o : Operation) → length (operation_ram c base ram o) ≡ length ram
+unfolding ram_after_write store_ram_end
+ram-length c base ram (store va n v) = go (located_now c (word_at base ram 8) va n Write).placed
+  where
+    go : (x : Placed) → length (store_ram_end x base ram n v) ≡ length ram
+    go (Ok place) = store_length base ram place n v
+    go (Err failed) = refl
+ram-length c base ram (translate va kind) = refl
+ram-length c base ram (access va n kind) = refl
+ram-length c base ram (load va n) = refl
+ram-length c base ram (fetch va) = refl
+ram-length c base ram (fetch_pa va) = refl
+ram-length c base ram (data_pa va) = refl
 
 -- THE CORE
 

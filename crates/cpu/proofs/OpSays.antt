@@ -1,4 +1,4 @@
--- Proofs of what specs/OpSays.antt says.
+-- What the operations answer, and RAM after them, by the answers of their translations.
 use Rattle.std.specs.Prelude.{◌≡◌, ℕ, List, refl}
 use Rattle.std.proofs.Common.{ap, ◌∙◌}
 use Rattle.tlb.specs.declared.access.Kind.TheVariants.{Read, Write}
@@ -6,7 +6,7 @@ use Rattle.cpu.specs.Bytes.{value_at}
 use Rattle.cpu.specs.Ends.{store_ram_end}
 use Rattle.cpu.specs.Memory.{stepped_now, fetch_stepped_now, translate_of, translate_access_of, ram_after_write, fetch_pa_of, data_pa_of}
 use Rattle.cpu.specs.Says.{value, done, placed_says, access_says, verdict_in}
-use Rattle.cpu.specs.Says.{load-says, store-says, fetch-says}
+use Rattle.cpu.proofs.Says.{load-says, store-says, fetch-says}
 use Rattle.cpu.specs.Translations.{translate_in, translate_fetch_in}
 use Rattle.cpu.specs.OpLaws.{Operation, translate, access, load, store, fetch, fetch_pa, data_pa, operation_ram, placed_by}
 use Rattle.cpu.specs.declared.Core.{Core}

@@ -1,4 +1,4 @@
--- Proofs of what specs/OwnAddress.antt says.
+-- Where each byte of an access lies, by its own address.
 use Rattle.cpu.specs.Results.{Stepped}
 use Rattle.std.specs.Prelude.{if◌then◌else◌, ◌≡◌, ℕ, ◌+◌, ◌-◌, ◌/◌, ◌%◌, ◌^◌, ◌<◌, ◌≤◌, Bool, true, false, List, ◌≢◌, nat_lt, Option, Ok, Err}
 use Rattle.std.proofs.Math.Path.{refl}
@@ -16,9 +16,8 @@ use Rattle.tlb.specs.declared.{access.Kind.Kind, Tlb.Tlb}
 use Rattle.tlb.specs.Answers.{Answer}
 use Rattle.cpu.specs.Answers.{Placed, fault_at}
 use Rattle.cpu.specs.Core.{after_access, bank_now}
-use Rattle.cpu.specs.Place.{in_page, next_page, crosses, goes_on}
+use Rattle.cpu.specs.Place.{in_page, next_page, crosses, goes_on, address_in}
 use Rattle.cpu.proofs.PlaceLaws.{same-page, same-offset, next-first}
-use Rattle.cpu.specs.BytesLaws.{address_in}
 use Rattle.cpu.proofs.PageLaws.{answer_at, step-page, step-offset}
 use Rattle.cpu.specs.Translations.{one_page, both_pages, translate_in, located_of}
 use Rattle.cpu.specs.Memory.{stepped_now, located_now, translate_of}

@@ -1,14 +1,13 @@
--- Proofs of what specs/PlaceLaws.antt says.
+-- Laws of where an access lies: which byte is the lowest outside RAM, and on which page each byte stands.
 use Rattle.std.specs.Prelude.{if◌then◌else◌, ◌≡◌, ℕ, zero, suc, ◌+◌, ◌-◌, ◌/◌, ◌%◌, ◌^◌, ◌<◌, ◌≤◌, Bool, true, false, nat_lt, Ok, Err}
 use Rattle.std.proofs.Math.Path.{refl}
 use Rattle.std.proofs.Common.{sym, ap, arith, ltb-true, ltb-false}
 use Rattle.fault.specs.declared.Fault.{Fault}
 use Rattle.word.specs.Bits.{wrap}
 use Rattle.word.specs.Ram.{within}
-use Rattle.cpu.specs.Place.{in_page, next_page, byte_at, first_outside, bytes_before}
+use Rattle.cpu.specs.Place.{in_page, next_page, byte_at, first_outside, bytes_before, Lowest}
 use Rattle.cpu.specs.declared.{place.Pages.Pages, place.FaultAt.FaultAt, place.Outside.Outside}
 use Rattle.cpu.specs.Answers.{Placed, Verdict, fault_at, outside_at}
-use Rattle.cpu.specs.PlaceLaws.{Lowest}
 
 -- two answers that are one name one byte, or one fault at one address
 pub same-outside : (i pa j q : ℕ) → ◌≡◌ {A = Verdict} (Err (outside_at i pa)) (Err (outside_at j q)) → (i ≡ j) × (pa ≡ q)

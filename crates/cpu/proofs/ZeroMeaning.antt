@@ -1,4 +1,4 @@
--- Proofs of what specs/ZeroMeaning.antt says.
+-- A zeroing that is done leaves 64 zero bytes, and so does DC ZVA.
 use Rattle.cpu.specs.Results.{Stored}
 use Rattle.std.specs.Prelude.{◌≡◌, ℕ, zero, suc, ◌+◌, ◌-◌, ◌*◌, ◌/◌, ◌%◌, ◌^◌, ◌<◌, ◌≤◌, Bool, true, false, List, length, ◌≢◌, nat_lt, slice_index, Ok, Err}
 use Rattle.std.proofs.Math.Path.{refl, ap, subst}
@@ -19,7 +19,8 @@ use Rattle.cpu.proofs.PageGiven.{Gives, gives-page, given, step_gives}
 use Rattle.cpu.specs.Translations.{translate_in}
 use Rattle.cpu.specs.Memory.{stepped_now, translate_of, write_of, ram_after_write}
 use Rattle.cpu.specs.Bare.{Bare, bare_of}
-use Rattle.cpu.specs.OpLaws.{store as storing, ram-length}
+use Rattle.cpu.specs.OpLaws.{store as storing}
+use Rattle.cpu.proofs.OpLaws.{ram-length}
 use Rattle.cpu.proofs.OpLaws.{kept}
 use Rattle.cpu.specs.declared.Core.{Core}
 use Rattle.cpu.specs.System.{on_stored, zero_of, zero_ram, sys_of, sys_ram}

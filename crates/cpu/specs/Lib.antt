@@ -1,4 +1,4 @@
--- What contracts of calls, places and bytes cite: the checks 1 to 7; where the bytes of an access lie; how it ends; the replies.
+-- Calls, places and bytes: the checks 1 to 7; where the bytes of an access lie; how it ends; the replies.
 pub mod Answers
 pub mod Check
 pub mod CheckCases
@@ -7,9 +7,6 @@ pub mod Place
 pub mod Bytes
 pub mod Ends
 pub mod Replies
--- Laws that the crates above cite.
-pub mod PlaceLaws
-pub mod BytesLaws
 -- Ends and places said once more, in numbers and by each byte's own address.
 pub mod PlaceRows
 pub mod EndMeaning
@@ -20,7 +17,7 @@ pub mod Core
 pub mod Translations
 pub mod Memory
 pub mod Hand
--- Laws that the crates above cite.
+-- What the theorems say: operations and answers, each byte by its own address.
 pub mod Says
 pub mod Asks
 pub mod OpLaws

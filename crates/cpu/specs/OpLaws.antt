@@ -1,6 +1,6 @@
 -- What every operation leaves as it was, the cache that it leaves, and RAM after it.
 use Rattle.cpu.specs.Results.{Located}
-use Rattle.std.specs.Prelude.{◌≡◌, ℕ, Bool, List, [], ◌∷◌, length, refl, Ok, Err}
+use Rattle.std.specs.Prelude.{◌≡◌, ℕ, Bool, List, [], ◌∷◌}
 use Rattle.std.proofs.Common.{sym}
 use Rattle.std.proofs.Math.Path.{ap}
 use Rattle.word.specs.Ram.{word_at}
@@ -10,14 +10,11 @@ use Rattle.tlb.specs.Asks.{Ask, translates, fetches, onward-same, answer_of, tlb
 use Rattle.tlb.specs.declared.access.Kind.{Kind}
 use Rattle.tlb.specs.declared.access.Kind.TheVariants.{Read, Write}
 use Rattle.cpu.specs.Core.{after_access, bank_now}
-use Rattle.cpu.specs.BytesLaws.{store_length}
-use Rattle.cpu.specs.Ends.{store_ram_end}
 use Rattle.cpu.specs.Memory.{stepped_now, fetch_stepped_now, located_now, translate_of, translate_access_of, read_of, write_of, ram_after_write, fetch_of, fetch_pa_of}
 use Rattle.cpu.specs.Memory.{data_pa_of}
 use Rattle.cpu.specs.Translations.{translate_in, translate_fetch_in}
 use Rattle.cpu.specs.Asks.{access_asks, access_at, placed_from, located-asks}
 use Rattle.cpu.specs.declared.Core.{Core}
-use Rattle.cpu.specs.Answers.{Placed}
 
 -- the operations; n is a number of bytes
 pub data Operation : Type 0 where
@@ -93,19 +90,3 @@ module _ (c : Core) (base : ℕ) (ram : List ℕ) where
   pub placed_by : (va n : ℕ) (kind : Kind)
       → (located_now c (word_at base ram 8) va n kind).placed ≡ placed_from va (answers access_now (access_asks (on_now c) va n kind) c.tlb)
   placed_by va n kind = ap (λ (r : Located). r.placed) (accessed va n kind)
-
--- RAM
-
-pub ram-length : (c : Core) (base : ℕ) (ram : List ℕ) (o : Operation) → length (operation_ram c base ram o) ≡ length ram
-unfolding ram_after_write store_ram_end
-ram-length c base ram (store va n v) = go (located_now c (word_at base ram 8) va n Write).placed
-  where
-    go : (x : Placed) → length (store_ram_end x base ram n v) ≡ length ram
-    go (Ok place) = store_length base ram place n v
-    go (Err failed) = refl
-ram-length c base ram (translate va kind) = refl
-ram-length c base ram (access va n kind) = refl
-ram-length c base ram (load va n) = refl
-ram-length c base ram (fetch va) = refl
-ram-length c base ram (fetch_pa va) = refl
-ram-length c base ram (data_pa va) = refl

@@ -1,5 +1,6 @@
 use Rattle.cpu.proofs.OpSays.{says-by, ram-by}
-use Rattle.cpu.specs.OpLaws.{ram-length, tlb-after}
+use Rattle.cpu.specs.OpLaws.{tlb-after}
+use Rattle.cpu.proofs.OpLaws.{ram-length}
 use Rattle.cpu.proofs.OpLaws.{kept, store-last, fetch-last, write-leaves}
 use Rattle.cpu.proofs.theorems.effect_of_operations.Goals as goal
 
