@@ -4,7 +4,8 @@ use Rattle.std.proofs.Common.{refl, sym}
 use Rattle.cpu.specs.declared.Core.{Core}
 use Rattle.cpu.specs.declared.call.Call.{Call}
 use Rattle.cpu.specs.Step.{step_of, ram_after}
-use Rattle.cpu.specs.EveryCallEnds.{writes, quiet}
+use Rattle.cpu.specs.EveryCallEnds.{writes}
+use Rattle.cpu.proofs.EveryCallEnds.{quiet}
 use Rattle.call_words.specs.Ops.{translate_call, mark_call}
 use Rattle.tlb.specs.declared.{access.Kind.Kind, access.NoSuchKind.NoSuchKind}
 use Rattle.call_words.specs.declared.op.DecodedCall.{DecodedCall}

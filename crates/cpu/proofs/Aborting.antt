@@ -1,16 +1,15 @@
 -- The physical addresses that an access leaves, by the translations of its bytes' own addresses.
 use Rattle.std.specs.Prelude.{if◌then◌else◌, Ok, Err}
-use Rattle.std.proofs.Common.{◌≡◌, ℕ, ◌+◌, Bool, true, false, List, length, sym, refl, ap, ◌∙◌, arith}
+use Rattle.std.proofs.Common.{◌≡◌, ℕ, Bool, true, false, List, length, sym, refl, ap, ◌∙◌, arith}
 use Rattle.word.specs.Bits.{wrap}
-use Rattle.word.specs.Ram.{within, word_at}
+use Rattle.word.specs.Ram.{word_at}
 use Rattle.tlb.specs.declared.access.Kind.{Kind}
 use Rattle.tlb.specs.declared.access.Kind.TheVariants.{Read, Write}
 use Rattle.tlb.specs.Answers.{Answer}
 use Rattle.cpu.specs.Answers.{Placed, Verdict, fault_at, outside_at}
 use Rattle.cpu.specs.Place.{next_page, in_page, crosses, goes_on, first_pa, verdict_of}
-use Rattle.cpu.specs.PlaceLaws.{same-outside, lowest}
 use Rattle.cpu.specs.Bytes.{value_at, load_of, insn_of, got_by}
-use Rattle.cpu.specs.BytesLaws.{address_in}
+use Rattle.cpu.proofs.Endings.{own}
 use Rattle.cpu.specs.Ends.{loaded_from, load_end, store_end, fetch_end}
 use Rattle.cpu.specs.declared.place.Place.{Place}
 use Rattle.cpu.specs.declared.place.Place.TheVariants.{Whole, Split}
@@ -19,23 +18,9 @@ use Rattle.cpu.specs.Core.{after_access, bank_now}
 use Rattle.cpu.specs.Translations.{translate_in, located_of, one_page, both_pages}
 use Rattle.cpu.specs.Memory.{stepped_now, located_now, translate_of, read_of, write_of, fetch_of}
 use Rattle.cpu.specs.OpLaws.{on_now}
-use Rattle.cpu.specs.OwnAddress.{lies-own}
+use Rattle.cpu.proofs.OwnAddress.{lies-own}
 use Rattle.cpu.specs.AbortAddress.{LoadsLeaveOwnFirst, LoadLeavesFailing, StoreLeavesFailing, FetchLeavesFailing}
 use Rattle.cpu.specs.declared.Core.{Core}
-
--- the lowest byte outside has its own address
-own : (place : Place) (base len n i pa : ℕ) → verdict_of base len place n ≡ Err (outside_at i pa) → pa ≡ address_in place i
-unfolding verdict_of
-own (Split p) base len n i pa e = (lowest base len p 0 n i pa e).at
-own (Whole q) base len n i pa e = go (within base len n q) e
-  where
-    go : (b : Bool) → ◌≡◌ {A = Verdict} (if b then Ok tt else Err (outside_at 0 q)) (Err (outside_at i pa)) → pa ≡ q + i
-    go true f = let z : ◌≡◌ {A = ℕ} 0 1 = cc in absurd (omega arith)
-    go false f =
-        let k = same-outside 0 q i pa f in
-        let x : 0 ≡ i = k.0 in
-        let y : q ≡ pa = k.1 in
-        omega arith
 
 module _ (c : Core) (base : ℕ) (ram : List ℕ) (va n : ℕ) where
   -- where an access is placed, its first byte is where its own address's translation says

@@ -5,10 +5,9 @@ use Rattle.word.specs.Bits.{wrap}
 use Rattle.word.specs.Ram.{within, little_endian}
 use Rattle.exception.specs.declared.{kind.Stop.Stop, kind.Exception.Exception}
 use Rattle.cpu.specs.Answers.{Verdict, LoadAnswer, StoreAnswer, FetchAnswer, outside_at}
-use Rattle.cpu.specs.Place.{byte_at, verdict_of}
-use Rattle.cpu.specs.PlaceLaws.{same-outside, lowest}
+use Rattle.cpu.specs.Place.{byte_at, verdict_of, address_in}
+use Rattle.cpu.proofs.PlaceLaws.{same-outside, lowest}
 use Rattle.cpu.specs.Bytes.{value_at, load_of, insn_of, got_by}
-use Rattle.cpu.specs.BytesLaws.{address_in}
 use Rattle.cpu.specs.Ends.{loaded_from, store_end_by, fetched_from, load_end, store_end, fetch_end}
 use Rattle.cpu.specs.EndMeaning.{stop_writes, stop_address, exception_writes, exception_address, LoadsRead, StoresWrite, FetchesReport}
 use Rattle.cpu.specs.EndMeaning.{LoadAborts, StoreAborts, FetchAborts, LoadsKeepFirst, FaultsLeave, DoneLeaves}
@@ -57,7 +56,7 @@ fetches-report (Ok pa) abort base ram va x e = go (within base (length ram) 4 pa
 -- EXTERNAL ABORTS
 
 -- the lowest byte outside has its own address
-own : (place : Place) (base len n i pa : ℕ) → verdict_of base len place n ≡ Err (outside_at i pa) → pa ≡ address_in place i
+pub own : (place : Place) (base len n i pa : ℕ) → verdict_of base len place n ≡ Err (outside_at i pa) → pa ≡ address_in place i
 unfolding verdict_of
 own (Split p) base len n i pa e = (lowest base len p 0 n i pa e).at
 own (Whole q) base len n i pa e = go (within base len n q) e

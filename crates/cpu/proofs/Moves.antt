@@ -4,10 +4,10 @@ use Rattle.std.proofs.Common.{◌≡◌, ℕ, zero, suc, ◌+◌, ◌-◌, ◌*�
 use native.Mathlib.Nat.{pow-le-pow_right}
 use Rattle.word.specs.Ram.{little_endian, within, word_at, stored}
 use Rattle.cpu.specs.Place.{byte_at, first_outside, verdict_of, bytes_before, Lie}
-use Rattle.cpu.specs.PlaceLaws.{lowest, all-inside}
+use Rattle.cpu.proofs.PlaceLaws.{lowest, all-inside}
 use Rattle.cpu.proofs.Places.{judge-on, judge-out, judge-in}
 use Rattle.cpu.specs.Bytes.{byte_in, split_value, split_stored, got_by, load_of}
-use Rattle.cpu.specs.BytesLaws.{stored-length}
+use Rattle.cpu.proofs.BytesLaws.{stored-length}
 use Rattle.cpu.specs.declared.place.Pages.{Pages}
 use Rattle.cpu.specs.Answers.{Verdict, outside_at}
 use Rattle.cpu.specs.declared.place.Place.TheVariants.{Whole, Split}

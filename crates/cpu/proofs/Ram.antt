@@ -1,7 +1,7 @@
 -- A store keeps RAM's length.
 use Rattle.std.specs.Prelude.{◌≡◌, ℕ, List, length, Ok, Err}
 use mathlib.Core.Path.{ap, ◌∙◌}
-use Rattle.cpu.specs.BytesLaws.{store_length}
+use Rattle.cpu.proofs.BytesLaws.{store_length}
 use Rattle.cpu.specs.Ends.{store_ram_end}
 use Rattle.cpu.specs.Answers.{Placed}
 

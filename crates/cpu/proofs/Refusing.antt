@@ -3,7 +3,8 @@ use Rattle.std.specs.Prelude.{◌≡◌, ℕ, zero, suc, ◌≤◌, List, refl}
 use Rattle.cpu.specs.declared.Core.{Core}
 use Rattle.cpu.specs.declared.call.Call.{Call}
 use Rattle.cpu.specs.declared.call.Reply.TheVariants.{Refused}
-use Rattle.cpu.specs.EveryCallEnds.{outcome_of, Ran, ran, Ended, is-refused, has-run, number-le}
+use Rattle.cpu.specs.EveryCallEnds.{outcome_of, Ran, Ended, is-refused, has-run}
+use Rattle.cpu.proofs.EveryCallEnds.{ran, number-le}
 use Rattle.cpu.specs.Step.{ends, refused_or, missed_by, run_of, ram_of, step_of, ram_after}
 
 module _ (c : Core) (base : ℕ) (ram : List ℕ) (call : Call) (n : ℕ) (e : missed_by c base ram call ≡ suc n) where

@@ -10,7 +10,7 @@ use Rattle.system.specs.declared.decode.SysOp.{SysOp}
 use Rattle.cpu.specs.Results.{Stored}
 use Rattle.cpu.specs.Core.{reg_of, set_reg, after_access}
 use Rattle.cpu.specs.Memory.{translate_of, write_of, ram_after_write, fetch_of, fetch_pa_of, data_pa_of}
-use Rattle.cpu.specs.OpLaws.{store-last}
+use Rattle.cpu.proofs.OpLaws.{store-last}
 use Rattle.cpu.specs.declared.Core.{Core}
 use Rattle.cpu.specs.Registers.{registered, written, applied_of, with_regs, after_register_write, set_level, set_mark, abort_of}
 use Rattle.cpu.specs.System.{with_par, at_of, tlbi_core, on_stored, zero_of, sys_by, op_of, sys_of}

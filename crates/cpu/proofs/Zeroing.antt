@@ -7,7 +7,7 @@ use Rattle.exception.specs.declared.kind.Stop.{Stop}
 use Rattle.cpu.specs.Memory.{write_of, ram_after_write}
 use Rattle.cpu.specs.declared.Core.{Core}
 use Rattle.cpu.specs.System.{zero_of, zero_ram}
-use Rattle.cpu.specs.ZeroLaws.{zero-none, zero-stops, zero-goes, some_left, fewer-left}
+use Rattle.cpu.proofs.ZeroLaws.{zero-none, zero-stops, zero-goes, some_left, fewer-left}
 
 module _ (n : ℕ) (c : Core) (base : ℕ) (ram : List ℕ) (va : ℕ) where
   pub none_is : n ≡ 0 → record { core = c; answer = Ok tt } ≡ zero_of n c base ram va

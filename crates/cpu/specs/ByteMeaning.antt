@@ -1,218 +1,16 @@
 -- What a load answers and a store leaves, byte by byte, each byte by its own address: byte i of an access to va stands
 -- at the virtual address wrap (va + i). With this `Pages`, `byte_at`, `in_page` and `next_page` need not be believed.
-use Rattle.std.specs.Prelude.{if◌then◌else◌, ◌≡◌, ℕ, zero, suc, ◌+◌, ◌-◌, ◌*◌, ◌/◌, ◌%◌, ◌^◌, ◌<◌, ◌≤◌, Bool, true, false, List, length, ◌≢◌, nat_lt}
-use Rattle.std.specs.Prelude.{slice_index, Option, Ok, Err}
-use Rattle.std.proofs.Math.Path.{refl, ap}
-use Rattle.std.proofs.Common.{sym, ◌∙◌, mod-eq_of_lt, div-one, le-leb}
-use Rattle.std.proofs.Math.Nat.{mod-mod, zero-add}
-use native.Mathlib.Omega.{arith}
+use Rattle.std.specs.Prelude.{◌≡◌, ℕ, ◌+◌, ◌*◌, ◌/◌, ◌%◌, ◌^◌, ◌<◌, ◌≤◌, true, false, List, length, ◌≢◌}
+use Rattle.std.specs.Prelude.{slice_index, Ok}
 use Rattle.word.specs.Bits.{wrap}
-use Rattle.word.specs.Ram.{within, word_at, written, stored}
-use Rattle.word.proofs.RamLaws.{within_low, within-high, digit-next, byte_of, written_byte}
+use Rattle.word.specs.Ram.{within, word_at}
 use Rattle.tlb.specs.declared.access.Kind.{Kind}
 use Rattle.tlb.specs.declared.access.Kind.TheVariants.{Read, Write}
-use Rattle.cpu.specs.Answers.{Placed, Verdict, LoadAnswer, outside_at}
-use Rattle.cpu.specs.Place.{byte_at, verdict_of, bytes_before}
-use Rattle.cpu.specs.PlaceLaws.{all-inside}
-use Rattle.cpu.specs.Bytes.{byte_in, split_value, split_stored, value_at, load_of, store_ram}
-use Rattle.cpu.specs.BytesLaws.{address_in, stored-length, split-length, split-leaves}
-use Rattle.cpu.specs.Ends.{load_end, store_end, store_ram_end}
-use Rattle.cpu.specs.Core.{after_access}
-use Rattle.cpu.specs.Translations.{located_of}
-use Rattle.cpu.specs.Memory.{stepped_now, located_now, translate_of, read_of, write_of, ram_after_write}
-use Rattle.cpu.specs.OpLaws.{on_now, write-leaves}
+use Rattle.cpu.specs.Bytes.{byte_in}
+use Rattle.cpu.specs.Memory.{translate_of, read_of, write_of, ram_after_write}
+use Rattle.cpu.specs.OpLaws.{on_now}
 use Rattle.cpu.specs.declared.Core.{Core}
-use Rattle.cpu.specs.declared.{place.Pages.Pages, place.Place.Place}
-use Rattle.cpu.specs.declared.place.Place.TheVariants.{Whole, Split}
-use Rattle.cpu.specs.OwnAddress.{own_answer, Ready, Own, lies-own}
-
--- EACH BYTE OF A VALUE
-
--- a byte of RAM
-small-in : (base : ℕ) (ram : List ℕ) (pa : ℕ) → ((k : ℕ) → slice_index ram k < 256) → byte_in base ram pa < 256
-unfolding byte_in
-small-in base ram pa small = go (within base (length ram) 1 pa)
-  where
-    go : (b : Bool) → (if b then slice_index ram (pa - base) else 0) < 256
-    go true = small (pa - base)
-    go false = omega arith
-
-there-in : (base : ℕ) (ram : List ℕ) (pa : ℕ) → base ≤ pa → pa < base + length ram → byte_in base ram pa ≡ slice_index ram (pa - base)
-unfolding byte_in
-there-in base ram pa h k = rw (le-leb base pa h, le-leb (pa + 1) (base + length ram) (omega arith))
-
--- a store of n bytes in RAM
-stored-inside : (base : ℕ) (ram : List ℕ) (n pa v : ℕ) → base ≤ pa → pa + n ≤ base + length ram → stored base ram n pa v ≡ written ram (pa - base) n v
-unfolding stored
-stored-inside base ram n pa v h k = rw (le-leb _ _ h, le-leb _ _ k)
-
-stored-byte : (base : ℕ) (ram : List ℕ) (n pa v i : ℕ) → base ≤ pa → pa + n ≤ base + length ram → i < n
-    → slice_index (stored base ram n pa v) (pa - base + i) ≡ v / 256 ^ i % 256
-stored-byte base ram n pa v i h k l = rw (stored-inside base ram n pa v h k) (written_byte ram (pa - base) n v i (omega arith) l)
-
--- byte i of a split value is the byte at byte i's place
-split-digit : (base : ℕ) (ram : List ℕ) (p : Pages) (s n i : ℕ) → ((k : ℕ) → slice_index ram k < 256) → i < n
-    → split_value base ram p s n / 256 ^ i % 256 ≡ byte_in base ram (byte_at p (s + i))
-unfolding split_value
-split-digit base ram p s zero i small h = absurd (omega arith)
-split-digit base ram p s (suc n) zero small h =
-    let b = small-in base ram (byte_at p s) small in
-    let z : s + 0 ≡ s = omega arith in
-    rw (z, div-one (split_value base ram p (s + 1) n * 256 + byte_in base ram (byte_at p s))) (omega arith)
-split-digit base ram p s (suc n) (suc i) small h =
-    let b = small-in base ram (byte_at p s) small in
-    let e : s + suc i ≡ s + 1 + i = omega arith in
-    let q : (split_value base ram p (s + 1) n * 256 + byte_in base ram (byte_at p s)) / 256 ≡ split_value base ram p (s + 1) n = omega arith in
-    rw (digit-next (split_value base ram p (s + 1) n * 256 + byte_in base ram (byte_at p s)) i, q, e)
-    (split-digit base ram p (s + 1) n i small (omega arith))
-
--- after a split store, the byte at byte i's place is byte i of the value, unless a later byte has the same place
-split-byte : (base : ℕ) (p : Pages) (v s n i : ℕ) (ram : List ℕ) → i < n → within base (length ram) 1 (byte_at p (s + i)) ≡ true
-    → ((j : ℕ) → i < j → j < n → byte_at p (s + j) ≢ byte_at p (s + i))
-    → byte_in base (split_stored base p v s n ram) (byte_at p (s + i)) ≡ v / 256 ^ i % 256
-unfolding split_stored
-split-byte base p v s zero i ram h w last = absurd (omega arith)
-split-byte base p v s (suc n) zero ram h w last =
-    let z : s + 0 ≡ s = omega arith in
-    let q = byte_at p s in
-    let inside : within base (length ram) 1 q ≡ true = rw z at w in
-    let low : base ≤ q = within_low base (length ram) 1 q inside in
-    let high : q + 1 ≤ base + length ram = within-high base (length ram) 1 q inside in
-    let zq : q - base + 0 ≡ q - base = omega arith in
-    let one : List ℕ = stored base ram 1 q v in
-    let long : length one ≡ length ram = stored-length base ram 1 q v in
-    let all : length (split_stored base p (v / 256) (s + 1) n one) ≡ length one = split-length base p (v / 256) (s + 1) n one in
-    rw (z, div-one v)
-    (there-in base (split_stored base p (v / 256) (s + 1) n one) q low (omega arith)
-    ∙ split-leaves base p (v / 256) (s + 1) n (q - base) one
-    (λ j a b e. let x : s + (j - s) ≡ j = omega arith in last (j - s) (omega arith) (omega arith) (rw (x, z) (sym e ∙ omega arith)))
-    ∙ (rw (zq, div-one v) at (stored-byte base ram 1 q v 0 low high (omega arith))))
-split-byte base p v s (suc n) (suc i) ram h w last =
-    let e : s + suc i ≡ s + 1 + i = omega arith in
-    let long : length (stored base ram 1 (byte_at p s) v) ≡ length ram = stored-length base ram 1 (byte_at p s) v in
-    rw (e, digit-next v i)
-    (split-byte base p (v / 256) (s + 1) n i (stored base ram 1 (byte_at p s) v) (omega arith) (rw (long, ← e) w)
-    (λ j a b q. let x : s + suc j ≡ s + 1 + j = omega arith in last (suc j) (omega arith) (omega arith) (rw (x, e) q)))
-
--- BYTES OF AN ACCESS THAT LIES IN RAM
-
-wrap-at : (p : Pages) (i : ℕ) → wrap (byte_at p i) ≡ byte_at p i
-wrap-at p i = go (nat_lt i p.in_page)
-  where
-    go : (b : Bool) → wrap (if b then wrap (p.pa + i) else wrap (p.pa2 + (i - p.in_page))) ≡ (if b then wrap (p.pa + i) else wrap (p.pa2 + (i - p.in_page)))
-    go true = mod-mod (p.pa + i) (2 ^ 64)
-    go false = mod-mod (p.pa2 + (i - p.in_page)) (2 ^ 64)
-
-whole-inside : (base len n pa : ℕ) → verdict_of base len (Whole pa) n ≡ Ok tt → within base len n pa ≡ true
-unfolding verdict_of
-whole-inside base len n pa = go (within base len n pa)
-  where
-    go : (b : Bool) → ◌≡◌ {A = Verdict} (if b then Ok tt else Err (outside_at 0 pa)) (Ok tt) → b ≡ true
-    go true e = refl
-    go false e = let z : ◌≡◌ {A = ℕ} 0 1 = cc in absurd (omega arith)
-
-split-inside : (base len n i : ℕ) (p : Pages) → verdict_of base len (Split p) n ≡ Ok tt → i < n → within base len 1 (byte_at p i) ≡ true
-unfolding verdict_of
-split-inside base len n i p e h = all-inside base len p 0 n e i (omega arith) (omega arith)
-
-module _ (base : ℕ) (ram : List ℕ) (n i : ℕ) (window : base + length ram ≤ 2 ^ 64) (h : i < n) where
-  module _ (pa : ℕ) (e : verdict_of base (length ram) (Whole pa) n ≡ Ok tt) where
-    whole-low : base ≤ pa
-    whole-low = within_low base (length ram) n pa (whole-inside base (length ram) n pa e)
-
-    whole-high : pa + n ≤ base + length ram
-    whole-high = within-high base (length ram) n pa (whole-inside base (length ram) n pa e)
-
-    whole-at : wrap (pa + i) ≡ pa + i
-    whole-at = let k = whole-high in mod-eq_of_lt (omega arith)
-
-  in_window : (place : Place) → verdict_of base (length ram) place n ≡ Ok tt → within base (length ram) 1 (wrap (address_in place i)) ≡ true
-  in_window (Whole pa) e =
-      let l = whole-low pa e in
-      let k = whole-high pa e in
-      rw (whole-at pa e, le-leb base (pa + i) (omega arith), le-leb (pa + i + 1) (base + length ram) (omega arith))
-  in_window (Split p) e = rw (wrap-at p i) (split-inside base (length ram) n i p e h)
-
-  value-byte : ((k : ℕ) → slice_index ram k < 256) → (place : Place) → verdict_of base (length ram) place n ≡ Ok tt
-      → value_at base ram place n / 256 ^ i % 256 ≡ byte_in base ram (wrap (address_in place i))
-  value-byte small (Whole pa) e =
-      let l = whole-low pa e in
-      let k = whole-high pa e in
-      let x : pa - base + i ≡ pa + i - base = omega arith in
-      byte_of ram n (pa - base) i small h
-      ∙ ap (λ (j : ℕ). slice_index ram j) x
-      ∙ sym (there-in base ram (pa + i) (omega arith) (omega arith))
-      ∙ ap (byte_in base ram) (sym (whole-at pa e))
-  value-byte small (Split p) e =
-      split-digit base ram p 0 n i small h
-      ∙ ap (λ (j : ℕ). byte_in base ram (byte_at p j)) (zero-add i)
-      ∙ ap (byte_in base ram) (sym (wrap-at p i))
-
-  store-digit : (v : ℕ) (place : Place) → verdict_of base (length ram) place n ≡ Ok tt
-      → ((j : ℕ) → i < j → j < n → wrap (address_in place j) ≢ wrap (address_in place i))
-      → byte_in base (store_ram base ram place n v) (wrap (address_in place i)) ≡ v / 256 ^ i % 256
-  unfolding store_ram
-  store-digit v (Whole pa) e last =
-      let l = whole-low pa e in
-      let k = whole-high pa e in
-      let long : length (stored base ram n pa v) ≡ length ram = stored-length base ram n pa v in
-      let x : pa + i - base ≡ pa - base + i = omega arith in
-      ap (byte_in base (stored base ram n pa v)) (whole-at pa e)
-      ∙ there-in base (stored base ram n pa v) (pa + i) (omega arith) (omega arith)
-      ∙ ap (λ (j : ℕ). slice_index (stored base ram n pa v) j) x
-      ∙ stored-byte base ram n pa v i l k h
-  store-digit v (Split p) e last =
-      let z : 0 + i ≡ i = zero-add i in
-      let all : bytes_before (verdict_of base (length ram) (Split p) n) n ≡ n = ap (λ (d : Verdict). bytes_before d n) e in
-      rw (all, wrap-at p i)
-      (rw z at (split-byte base p v 0 n i ram h (rw z (split-inside base (length ram) n i p e h))
-      (λ j a b q. last j a b (rw (wrap-at p j, wrap-at p i) (rw (zero-add j, z) at q)))))
-
--- WHAT AN ANSWER SAYS OF ITS PLACE
-
-module _ (c : Core) (base : ℕ) (ram : List ℕ) (va n : ℕ) where
-  abbrev placed_for : Kind → Placed
-  placed_for kind = (located_now c (word_at base ram 8) va n kind).placed
-
-  record Loaded (v : ℕ) : Type 0 where
-    place : Place
-    placed : placed_for Read ≡ Ok place
-    inside : verdict_of base (length ram) place n ≡ Ok tt
-    value : v ≡ value_at base ram place n
-
-  loaded : (v : ℕ) → (read_of c base ram va n).answer ≡ Ok v → Loaded v
-  unfolding read_of load_end load_of
-  loaded v = go (placed_for Read) refl
-    where
-      value-is : (x : ℕ) → ◌≡◌ {A = LoadAnswer} (Ok x) (Ok v) → v ≡ x
-      value-is x q = cc
-
-      go : (x : Placed) → placed_for Read ≡ x → (load_end x c.last_pa c.abort_pa base ram va n).answer ≡ Ok v → Loaded v
-      go (Err failed) e q = let z : ◌≡◌ {A = ℕ} 0 1 = cc in absurd (omega arith)
-      go (Ok place) e q = verdict (verdict_of base (length ram) place n) refl
-        where
-          verdict : (d : Verdict) → verdict_of base (length ram) place n ≡ d → Loaded v
-          verdict (Ok x) d = record { place = place; placed = e; inside = d; value = value-is _ (rw d at q) }
-          verdict (Err out) d = let z = rw d at q in let w : ◌≡◌ {A = ℕ} 0 1 = cc in absurd (omega arith)
-
-  record Done : Type 0 where
-    place : Place
-    placed : placed_for Write ≡ Ok place
-    inside : verdict_of base (length ram) place n ≡ Ok tt
-
-  done : (write_of c base ram va n).answer ≡ Ok tt → Done
-  unfolding write_of store_end
-  done = go (placed_for Write) refl
-    where
-      go : (x : Placed) → placed_for Write ≡ x → (store_end x c.abort_pa base ram va n).answer ≡ Ok tt → Done
-      go (Err failed) e q = let z : ◌≡◌ {A = ℕ} 0 1 = cc in absurd (omega arith)
-      go (Ok place) e q = verdict (verdict_of base (length ram) place n) refl
-        where
-          verdict : (d : Verdict) → verdict_of base (length ram) place n ≡ d → Done
-          verdict (Ok x) d = record { place = place; placed = e; inside = d }
-          verdict (Err out) d = let z = rw d at q in let w : ◌≡◌ {A = ℕ} 0 1 = cc in absurd (omega arith)
-
--- THE OPERATIONS
+use Rattle.cpu.specs.OwnAddress.{own_answer, Ready}
 
 -- byte i of an access by its own address: where its translation says, and that it lies in RAM; an address is 64 bits
 pub record OwnByte (c : Core) (base : ℕ) (ram : List ℕ) (va : ℕ) (kind : Kind) (i : ℕ) : Type 0 where
@@ -227,16 +25,6 @@ LoadsOwnBytes =
     → (read_of c base ram va n).answer ≡ Ok v → i < n
     → (o : OwnByte c base ram va Read i) × (v / 256 ^ i % 256 ≡ byte_in base ram (wrap o.pa))
 
-pub load_byte : LoadsOwnBytes
-load_byte c base ram va n v i ready small e h =
-    let l = loaded c base ram va n v e in
-    let w = lies-own c base ram va n Read ready i h l.place l.placed in (
-      record { pa = w.pa; answer = w.answer; inside = rw w.there (in_window base ram n i ready.window h l.place l.inside) },
-      ap (λ (x : ℕ). x / 256 ^ i % 256) l.value
-          ∙ value-byte base ram n i ready.window h small l.place l.inside
-          ∙ ap (byte_in base ram) (sym w.there),
-    )
-
 -- after a store that is done, the byte of RAM at the translation of byte i's own address is byte i of the value; where
 -- the two pages of a split store share bytes of RAM, that of the later byte
 abbrev pub StoresOwnBytes : Type 0
@@ -247,18 +35,6 @@ StoresOwnBytes =
     × (((j pa : ℕ) → i < j → j < n → own_answer c (word_at base ram 8) va Write j ≡ Ok pa → wrap pa ≢ wrap o.pa)
     → byte_in base (ram_after_write c base ram va n v) (wrap o.pa) ≡ v / 256 ^ i % 256)
 
-pub store_byte : StoresOwnBytes
-unfolding ram_after_write store_ram_end
-store_byte c base ram va n v i ready e h =
-    let d = done c base ram va n e in
-    let own : (j : ℕ) → j < n → Own c (word_at base ram 8) va Write j d.place
-    = λ j k. lies-own c base ram va n Write ready j k d.place d.placed in
-    let w = own i h in (
-      record { pa = w.pa; answer = w.answer; inside = rw w.there (in_window base ram n i ready.window h d.place d.inside) },
-      λ last. rw (d.placed, w.there) (store-digit base ram n i ready.window h v d.place d.inside
-          (λ j a b q. last j (own j b).pa a b (own j b).answer ((own j b).there ∙ q ∙ sym w.there))),
-    )
-
 -- a store, done or not, leaves every byte of RAM that is at the translation of none of its bytes' own addresses
 abbrev pub StoreLeavesOthers : Type 0
 StoreLeavesOthers =
@@ -266,25 +42,7 @@ StoreLeavesOthers =
     → ((i pa : ℕ) → i < n → own_answer c (word_at base ram 8) va Write i ≡ Ok pa → wrap pa ≢ base + k)
     → slice_index (ram_after_write c base ram va n v) k ≡ slice_index ram k
 
-pub store-others : StoreLeavesOthers
-store-others c base ram va n v k ready h none =
-    write-leaves c base ram va n v k
-    (λ place e i l q.
-    let w = lies-own c base ram va n Write ready i l place e in
-    let window : base + length ram ≤ 2 ^ 64 = ready.window in
-    let fits : wrap (base + k) ≡ base + k = mod-eq_of_lt (omega arith) in
-    none i w.pa l w.answer (w.there ∙ ap wrap (sym q) ∙ fits))
-
 -- WITH STAGE 1 OFF an access of n bytes is one translation, of its first byte, and lies whole from there on, also past 2^44
-
-module _ (c : Core) (memory : ℕ → Option ℕ) (va n pa : ℕ) (kind : Kind) where
-  flat-placed : on_now c ≡ false → (translate_of c memory va kind).answer ≡ Ok pa → (located_now c memory va n kind).placed ≡ Ok (Whole pa)
-  unfolding translate_of stepped_now located_now located_of after_access
-  flat-placed off e = rw (off, e)
-
-flat-verdict : (base len n pa : ℕ) → within base len n pa ≡ true → verdict_of base len (Whole pa) n ≡ Ok tt
-unfolding verdict_of
-flat-verdict base len n pa h = rw h
 
 abbrev pub LoadsFlatBytes : Type 0
 LoadsFlatBytes =
@@ -292,29 +50,9 @@ LoadsFlatBytes =
     → (translate_of c (word_at base ram 8) va Read).answer ≡ Ok pa → within base (length ram) n pa ≡ true
     → (v : ℕ) × ((read_of c base ram va n).answer ≡ Ok v) × ((i : ℕ) → i < n → v / 256 ^ i % 256 ≡ byte_in base ram (pa + i))
 
-pub load-flat : LoadsFlatBytes
-unfolding read_of load_end load_of
-load-flat c base ram va n pa off room small e inside =
-    let d = flat-verdict base (length ram) n pa inside in (
-      value_at base ram (Whole pa) n,
-      rw (flat-placed c (word_at base ram 8) va n pa Read off e, d),
-      λ i h. value-byte base ram n i room h small (Whole pa) d ∙ ap (byte_in base ram) (whole-at base ram n i room h pa d),
-    )
-
 abbrev pub StoresFlatBytes : Type 0
 StoresFlatBytes =
     (c : Core) (base : ℕ) (ram : List ℕ) (va n v pa : ℕ) → on_now c ≡ false → base + length ram ≤ 2 ^ 64
     → (translate_of c (word_at base ram 8) va Write).answer ≡ Ok pa → within base (length ram) n pa ≡ true
     → ((write_of c base ram va n).answer ≡ Ok tt)
     × ((i : ℕ) → i < n → byte_in base (ram_after_write c base ram va n v) (pa + i) ≡ v / 256 ^ i % 256)
-
-pub store-flat : StoresFlatBytes
-unfolding write_of store_end ram_after_write store_ram_end
-store-flat c base ram va n v pa off room e inside =
-    let d = flat-verdict base (length ram) n pa inside in
-    let at : (i : ℕ) → i < n → wrap (pa + i) ≡ pa + i = λ i h. whole-at base ram n i room h pa d in
-    let place = flat-placed c (word_at base ram 8) va n pa Write off e in (
-      rw (place, d),
-      λ i h. rw (place) (ap (byte_in base (store_ram base ram (Whole pa) n v)) (sym (at i h))
-          ∙ store-digit base ram n i room h v (Whole pa) d (λ j a b q. let x = at i h in let y = at j b in omega arith)),
-    )

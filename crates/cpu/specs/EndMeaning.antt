@@ -7,8 +7,7 @@ use Rattle.exception.specs.declared.{kind.Stop.Stop, kind.Exception.Exception}
 use Rattle.exception.specs.declared.kind.Exception.TheVariants.{Undefined, Svc, Hvc, Smc, Brk, DataAbort, InsnAbort, PcAlignment}
 use Rattle.tlb.specs.Answers.{Answer}
 use Rattle.cpu.specs.Answers.{Placed, outside_at}
-use Rattle.cpu.specs.Place.{verdict_of}
-use Rattle.cpu.specs.BytesLaws.{address_in}
+use Rattle.cpu.specs.Place.{verdict_of, address_in}
 use Rattle.cpu.specs.Ends.{load_end, store_end, fetch_end}
 use Rattle.cpu.specs.declared.{place.Place.Place, place.FaultAt.FaultAt}
 use Rattle.cpu.specs.declared.place.Place.TheVariants.{Whole, Split}

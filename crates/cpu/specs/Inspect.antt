@@ -1,13 +1,11 @@
 -- What a census of the core finds, beside its reply; core and RAM stay.
-use Rattle.std.specs.Prelude.{◌≡◌, ℕ, zero, suc, List, replicate}
-use Rattle.std.proofs.Math.Path.{refl}
+use Rattle.std.specs.Prelude.{ℕ, List, replicate}
 use Rattle.word.specs.Ram.{word_at}
 use Rattle.census.specs.Count.{census_at}
 use Rattle.cpu.specs.declared.Core.{Core}
 use Rattle.cpu.specs.declared.call.Call.TheVariants.{Census}
-use Rattle.cpu.specs.declared.call.Reply.TheVariants.{Refused}
 use Rattle.cpu.specs.declared.inspect.Censused.{Censused}
-use Rattle.cpu.specs.Step.{ends, refused_or, missed_by, run_of, ram_of, step_of, ram_after}
+use Rattle.cpu.specs.Step.{refused_or, missed_by, step_of}
 
 -- under the core's registers, in its level's regime
 abbrev pub counts_of : Core → ℕ → List ℕ → ℕ → ℕ → List ℕ
@@ -20,21 +18,3 @@ counts_after c base ram first pages old = refused_or (missed_by c base ram (Cens
 unfoldable pub census_by : Core → ℕ → List ℕ → ℕ → ℕ → Censused
 census_by c base ram first pages =
     record { counts = counts_after c base ram first pages (replicate 129 0); reply = (step_of c base ram (Census first pages)).reply }
-
--- Cache and counters do not move, nor does anything else of the core, nor RAM
-module _ (c : Core) (base : ℕ) (ram : List ℕ) (first pages : ℕ) where
-  pub census-core : (step_of c base ram (Census first pages)).core ≡ c
-  unfolding step_of run_of
-  census-core = go (missed_by c base ram (Census first pages))
-    where
-      go : (n : ℕ) → (refused_or n (λ k. ends c (Refused k)) (run_of c base ram (Census first pages))).core ≡ c
-      go zero = refl
-      go (suc n) = refl
-
-  pub census-ram : ram_after c base ram (Census first pages) ≡ ram
-  unfolding ram_after ram_of
-  census-ram = go (missed_by c base ram (Census first pages))
-    where
-      go : (n : ℕ) → refused_or n (λ k. ram) (ram_of c base ram (Census first pages)) ≡ ram
-      go zero = refl
-      go (suc n) = refl

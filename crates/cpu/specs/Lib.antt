@@ -1,4 +1,4 @@
--- What contracts of calls, places and bytes cite: the checks 1 to 7; where the bytes of an access lie; how it ends; the replies.
+-- Calls, places and bytes: the checks 1 to 7; where the bytes of an access lie; how it ends; the replies.
 pub mod Answers
 pub mod Check
 pub mod CheckCases
@@ -7,9 +7,6 @@ pub mod Place
 pub mod Bytes
 pub mod Ends
 pub mod Replies
--- Laws that the crates above cite.
-pub mod PlaceLaws
-pub mod BytesLaws
 -- Ends and places said once more, in numbers and by each byte's own address.
 pub mod PlaceRows
 pub mod EndMeaning
@@ -20,9 +17,7 @@ pub mod Core
 pub mod Translations
 pub mod Memory
 pub mod Hand
--- Laws that the crates above cite.
-pub mod PageLaws
-pub mod PageGiven
+-- What the theorems say: operations and answers, each byte by its own address.
 pub mod Says
 pub mod Asks
 pub mod OpLaws
@@ -37,8 +32,6 @@ pub mod Registers
 pub mod System
 -- A worked case of each regime.
 pub mod SystemCases
-pub mod ZeroLaws
-pub mod ZeroLine
 pub mod ZeroMeaning
 -- The table of docs/SCOPE.md, "Where each answer is given": the checks, then the operations.
 pub mod Step

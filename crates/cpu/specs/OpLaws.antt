@@ -1,6 +1,6 @@
 -- What every operation leaves as it was, the cache that it leaves, and RAM after it.
 use Rattle.cpu.specs.Results.{Located}
-use Rattle.std.specs.Prelude.{◌≡◌, ℕ, ◌+◌, ◌<◌, Bool, List, [], ◌∷◌, length, ◌≢◌, slice_index, refl, Ok, Err}
+use Rattle.std.specs.Prelude.{◌≡◌, ℕ, Bool, List, [], ◌∷◌}
 use Rattle.std.proofs.Common.{sym}
 use Rattle.std.proofs.Math.Path.{ap}
 use Rattle.word.specs.Ram.{word_at}
@@ -10,17 +10,12 @@ use Rattle.tlb.specs.Asks.{Ask, translates, fetches, answer_of, tlb_ask, answers
 use Rattle.tlb.proofs.Asks.{onward-same}
 use Rattle.tlb.specs.declared.access.Kind.{Kind}
 use Rattle.tlb.specs.declared.access.Kind.TheVariants.{Read, Write}
-use Rattle.cpu.specs.Bare.{bare_of}
 use Rattle.cpu.specs.Core.{after_access, bank_now}
-use Rattle.cpu.specs.BytesLaws.{address_in, store_length, store-leaves}
-use Rattle.cpu.specs.Ends.{store_ram_end}
 use Rattle.cpu.specs.Memory.{stepped_now, fetch_stepped_now, located_now, translate_of, translate_access_of, read_of, write_of, ram_after_write, fetch_of, fetch_pa_of}
 use Rattle.cpu.specs.Memory.{data_pa_of}
 use Rattle.cpu.specs.Translations.{translate_in, translate_fetch_in}
 use Rattle.cpu.specs.Asks.{access_asks, access_at, placed_from, located-asks}
 use Rattle.cpu.specs.declared.Core.{Core}
-use Rattle.cpu.specs.declared.place.Place.{Place}
-use Rattle.cpu.specs.Answers.{Placed}
 
 -- the operations; n is a number of bytes
 pub data Operation : Type 0 where
@@ -64,19 +59,6 @@ asks_of on (data_pa va) = translates Read va ∷ []
 abbrev pub on_now : Core → Bool
 on_now c = stage1_on (bank_now c) (regime_of c.privilege.level)
 
--- THE CORE
-
--- no operation changes the level, the mark, flags, PC or a register
-pub kept : (c : Core) (base : ℕ) (ram : List ℕ) (o : Operation) → bare_of (operation_core c base ram o) ≡ bare_of c
-unfolding translate_of translate_access_of read_of write_of fetch_of fetch_pa_of data_pa_of after_access
-kept c base ram (translate va kind) = refl
-kept c base ram (access va n kind) = refl
-kept c base ram (load va n) = refl
-kept c base ram (store va n v) = refl
-kept c base ram (fetch va) = refl
-kept c base ram (fetch_pa va) = refl
-kept c base ram (data_pa va) = refl
-
 module _ (c : Core) (base : ℕ) (ram : List ℕ) where
   -- the access of a kind at an address
   abbrev pub access_now : Kind → ℕ → Access
@@ -109,41 +91,3 @@ module _ (c : Core) (base : ℕ) (ram : List ℕ) where
   pub placed_by : (va n : ℕ) (kind : Kind)
       → (located_now c (word_at base ram 8) va n kind).placed ≡ placed_from va (answers access_now (access_asks (on_now c) va n kind) c.tlb)
   placed_by va n kind = ap (λ (r : Located). r.placed) (accessed va n kind)
-
--- only a load sets `last_pa`
-pub store-last : (c : Core) (base : ℕ) (ram : List ℕ) (va n : ℕ) → (write_of c base ram va n).core.last_pa ≡ c.last_pa
-unfolding write_of after_access
-store-last c base ram va n = refl
-
-pub fetch-last : (c : Core) (base : ℕ) (ram : List ℕ) (va : ℕ) → (fetch_of c base ram va).core.last_pa ≡ c.last_pa
-unfolding fetch_of after_access
-fetch-last c base ram va = refl
-
--- RAM
-
-pub ram-length : (c : Core) (base : ℕ) (ram : List ℕ) (o : Operation) → length (operation_ram c base ram o) ≡ length ram
-unfolding ram_after_write store_ram_end
-ram-length c base ram (store va n v) = go (located_now c (word_at base ram 8) va n Write).placed
-  where
-    go : (x : Placed) → length (store_ram_end x base ram n v) ≡ length ram
-    go (Ok place) = store_length base ram place n v
-    go (Err failed) = refl
-ram-length c base ram (translate va kind) = refl
-ram-length c base ram (access va n kind) = refl
-ram-length c base ram (load va n) = refl
-ram-length c base ram (fetch va) = refl
-ram-length c base ram (fetch_pa va) = refl
-ram-length c base ram (data_pa va) = refl
-
--- a store changes no byte but its own
-pub write-leaves : (c : Core) (base : ℕ) (ram : List ℕ) (va n v k : ℕ)
-    → ((place : Place) → (located_now c (word_at base ram 8) va n Write).placed ≡ Ok place
-    → (i : ℕ) → i < n → base + k ≢ address_in place i)
-    → slice_index (ram_after_write c base ram va n v) k ≡ slice_index ram k
-unfolding ram_after_write store_ram_end
-write-leaves c base ram va n v k none = go (located_now c (word_at base ram 8) va n Write).placed none
-  where
-    go : (x : Placed) → ((place : Place) → x ≡ Ok place → (i : ℕ) → i < n → base + k ≢ address_in place i)
-        → slice_index (store_ram_end x base ram n v) k ≡ slice_index ram k
-    go (Ok place) free = store-leaves base ram place n v k (free place refl)
-    go (Err failed) free = refl

@@ -1,6 +1,6 @@
 -- Where the bytes of an access lie, and which of them lie outside RAM, by the code's own two parts; `OwnAddress` has it
 -- by each byte's own address.
-use Rattle.std.specs.Prelude.{if◌then◌else◌, ◌≡◌, ℕ, zero, suc, ◌+◌, ◌-◌, ◌%◌, ◌<◌, Bool, true, false, ◌&&◌, nat_lt, Ok, Err}
+use Rattle.std.specs.Prelude.{if◌then◌else◌, ◌≡◌, ℕ, zero, suc, ◌+◌, ◌-◌, ◌%◌, ◌<◌, ◌≤◌, Bool, true, false, ◌&&◌, nat_lt, Ok, Err}
 use Rattle.word.specs.Bits.{wrap}
 use Rattle.word.specs.Ram.{within}
 use Rattle.tlb.specs.Answers.{Answer}
@@ -44,6 +44,11 @@ first_pa (Split p) = p.pa
 abbrev pub byte_at : Pages → ℕ → ℕ
 byte_at p i = if nat_lt i p.in_page then wrap (p.pa + i) else wrap (p.pa2 + (i - p.in_page))
 
+-- the physical address of byte i of any access
+abbrev pub address_in : Place → ℕ → ℕ
+address_in (Whole pa) i = pa + i
+address_in (Split p) i = byte_at p i
+
 -- A split access is judged byte by byte: of n bytes from index i on, the lowest that lies outside RAM.
 unfoldable pub first_outside : ℕ → ℕ → Pages → ℕ → ℕ → Verdict
 first_outside base len p i zero = Ok tt
@@ -63,3 +68,11 @@ verdict_of base len (Split p) n = first_outside base len p 0 n
 abbrev pub bytes_before : Verdict → ℕ → ℕ
 bytes_before (Ok x) n = n
 bytes_before (Err out) n = out.index
+
+-- byte i is the lowest that lies outside, of n from index k on
+pub record Lowest (base len : ℕ) (p : Pages) (k n i pa : ℕ) : Type 0 where
+  pub first : k ≤ i
+  pub last : i < k + n
+  pub at : pa ≡ byte_at p i
+  pub out : within base len 1 pa ≡ false
+  pub before : (j : ℕ) → k ≤ j → j < i → within base len 1 (byte_at p j) ≡ true

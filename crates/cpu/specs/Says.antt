@@ -1,18 +1,12 @@
 -- Each answer as the requirement's value, or its fault's address and status; and what the operations answer, so told.
-use Rattle.std.specs.Prelude.{if◌then◌else◌, ◌≡◌, ℕ, ◌+◌, ◌-◌, Bool, true, false, List, length, Option, Some, None, Ok, Err}
-use Rattle.std.proofs.Math.Path.{refl}
+use Rattle.std.specs.Prelude.{if◌then◌else◌, ℕ, ◌+◌, ◌-◌, List, length, Option, Some, None, Ok, Err}
 use Rattle.word.specs.Bits.{wrap}
-use Rattle.word.specs.Ram.{little_endian, within, word_at}
-use Rattle.tlb.specs.declared.access.Kind.TheVariants.{Read, Write}
+use Rattle.word.specs.Ram.{little_endian, within}
 use Rattle.tlb.specs.Answers.{Answer}
 use Rattle.cpu.specs.Answers.{Placed, Verdict, LoadAnswer, StoreAnswer, FetchAnswer}
 use Rattle.exception.specs.declared.{kind.Stop.Stop, kind.Exception.Exception}
 use Rattle.exception.specs.declared.kind.Exception.TheVariants.{Undefined, Svc, Hvc, Smc, Brk, DataAbort, InsnAbort, PcAlignment}
 use Rattle.cpu.specs.Place.{verdict_of}
-use Rattle.cpu.specs.Bytes.{value_at, load_of, insn_of}
-use Rattle.cpu.specs.Ends.{load_end, store_end, fetch_end}
-use Rattle.cpu.specs.Memory.{fetch_stepped_now, located_now, read_of, write_of, fetch_of}
-use Rattle.cpu.specs.declared.Core.{Core}
 use Rattle.cpu.specs.declared.place.Place.{Place}
 
 -- value: what was loaded or fetched, or where an access goes. lies: the place of an access. faults: no more is told.
@@ -81,57 +75,8 @@ access_says (Ok place) judge va said = memory_says (judge place) va (said place)
 abbrev pub verdict_in : ℕ → List ℕ → ℕ → Place → Verdict
 verdict_in base ram n place = verdict_of base (length ram) place n
 
-module _ (c : Core) (base : ℕ) (ram : List ℕ) (va n : ℕ) where
-  load-ends : (x : Placed) (last abort : ℕ)
-      → load_says (load_end x last abort base ram va n).answer ≡ access_says x (verdict_in base ram n) va (λ p. value (value_at base ram p n))
-  unfolding load_end load_of
-  load-ends (Err failed) last abort = refl
-  load-ends (Ok place) last abort = go (verdict_in base ram n place) refl
-    where
-      go : (d : Verdict) → verdict_in base ram n place ≡ d
-          → load_says (load_end (Ok place) last abort base ram va n).answer ≡ memory_says (verdict_in base ram n place) va (value (value_at base ram place n))
-      go (Ok x) e = rw e
-      go (Err out) e = rw e
-
-  store-ends : (x : Placed) (abort : ℕ)
-      → store_says (store_end x abort base ram va n).answer ≡ access_says x (verdict_in base ram n) va (λ p. done)
-  unfolding store_end
-  store-ends (Err failed) abort = refl
-  store-ends (Ok place) abort = go (verdict_in base ram n place) refl
-    where
-      go : (d : Verdict) → verdict_in base ram n place ≡ d
-          → store_says (store_end (Ok place) abort base ram va n).answer ≡ memory_says (verdict_in base ram n place) va done
-      go (Ok x) e = rw e
-      go (Err out) e = rw e
-
-  -- a load answers the value of its bytes
-  pub load-says : load_says (read_of c base ram va n).answer
-      ≡ access_says (located_now c (word_at base ram 8) va n Read).placed (verdict_in base ram n) va (λ p. value (value_at base ram p n))
-  unfolding read_of
-  load-says = load-ends (located_now c (word_at base ram 8) va n Read).placed _ _
-
-  -- a store that it is done
-  pub store-says : store_says (write_of c base ram va n).answer
-      ≡ access_says (located_now c (word_at base ram 8) va n Write).placed (verdict_in base ram n) va (λ p. done)
-  unfolding write_of
-  store-says = store-ends (located_now c (word_at base ram 8) va n Write).placed _
-
 -- a fetch reads four bytes: the fault of its translation, or 0x10, at its own address
 abbrev pub insn_says : ℕ → List ℕ → ℕ → Answer → Said
 insn_says base ram va (Err f) = fault va f.fsc
 insn_says base ram va (Ok pa) =
     if within base (length ram) 4 pa then value (little_endian ram 4 (pa - base)) else fault va 0x10
-
-pub fetch-says : (c : Core) (base : ℕ) (ram : List ℕ) (va : ℕ)
-    → fetch_says (fetch_of c base ram va).answer ≡ insn_says base ram va (fetch_stepped_now c (word_at base ram 8) va).answer
-unfolding fetch_of fetch_end insn_of
-fetch-says c base ram va = ends (fetch_stepped_now c (word_at base ram 8) va).answer _
-  where
-    ends : (a : Answer) (abort : ℕ) → fetch_says (fetch_end a abort base ram va).answer ≡ insn_says base ram va a
-    ends (Err f) abort = refl
-    ends (Ok pa) abort = go (within base (length ram) 4 pa) refl
-      where
-        go : (b : Bool) → within base (length ram) 4 pa ≡ b
-            → fetch_says (fetch_end (Ok pa) abort base ram va).answer ≡ insn_says base ram va (Ok pa)
-        go true e = rw e
-        go false e = rw e

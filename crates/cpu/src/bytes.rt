@@ -34,19 +34,13 @@ fn load_split(base: u64, ram: &[u8], p: Pages, n: u64) -> Result<u64, Outside>
     Ok(split_value(base, ram, p, n))
 }
 
-#[tactic(auto, unfolding(crate::specs::Bytes::load_of, crate::specs::Place::verdict_of, word::specs::Ram::word_at))]
-fn load_whole(base: u64, ram: &[u8], pa: u64, width: Width) -> Result<u64, Outside>
-    ensures { result ≡ load_of base ram.now (Place.Whole pa) (bytes_in width) }
-{
-    ram::read(base, ram, width, pa).ok_or(Outside { index: 0, pa })
-}
-
 /// A load from a place; an error is its lowest byte outside RAM.
+#[tactic(auto, unfolding(crate::specs::Bytes::load_of, crate::specs::Place::verdict_of, word::specs::Ram::word_at))]
 pub fn load(base: u64, ram: &[u8], place: Place, width: Width) -> Result<u64, Outside>
     ensures { result ≡ load_of base ram.now place (bytes_in width) }
 {
     match place {
-        Place::Whole(pa) => load_whole(base, ram, pa, width),
+        Place::Whole(pa) => ram::read(base, ram, width, pa).ok_or(Outside { index: 0, pa }),
         Place::Split(p) => load_split(base, ram, p, width.bytes()),
     }
 }
@@ -70,20 +64,9 @@ fn store_split(base: u64, ram: &mut [u8], p: Pages, n: u64, value: u64) -> Resul
     Ok(())
 }
 
-#[tactic(auto, unfolding(crate::specs::Place::verdict_of, crate::specs::Bytes::store_ram))]
-fn store_whole(base: u64, ram: &mut [u8], pa: u64, width: Width, value: u64) -> Result<(), Outside>
-    ensures { (result ≡ verdict_of base (length ram.old) (Place.Whole pa) (bytes_in width))
-        × (ram.new ≡ store_ram base ram.old (Place.Whole pa) (bytes_in width) value) }
-{
-    if ram::write(base, ram, width, pa, value) {
-        Ok(())
-    } else {
-        Err(Outside { index: 0, pa })
-    }
-}
-
 /// A store of a value's low bytes to a place; an error is its lowest byte outside RAM, before which a split store has
 /// written.
+#[tactic(auto, unfolding(crate::specs::Place::verdict_of, crate::specs::Bytes::store_ram))]
 pub fn store(
     base: u64,
     ram: &mut [u8],
@@ -95,7 +78,13 @@ pub fn store(
         × (ram.new ≡ store_ram base ram.old place (bytes_in width) value) }
 {
     match place {
-        Place::Whole(pa) => store_whole(base, ram, pa, width, value),
+        Place::Whole(pa) => {
+            if ram::write(base, ram, width, pa, value) {
+                Ok(())
+            } else {
+                Err(Outside { index: 0, pa })
+            }
+        }
         Place::Split(p) => store_split(base, ram, p, width.bytes(), value),
     }
 }

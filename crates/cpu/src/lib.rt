@@ -13,7 +13,6 @@ use walk::regime::{Bank, Regime};
 pub mod bytes;
 pub mod call;
 pub mod check;
-mod fit;
 pub mod inspect;
 mod memory;
 pub mod place;

@@ -1,12 +1,31 @@
 // Register writes, settings and abort entry on the core.
 ghost use Rattle.std.specs.Prelude.{◌≡◌};
+ghost use Rattle.cpu.specs.Fit.{refit_of};
 ghost use Rattle.cpu.specs.Registers.{after_register_write, set_level, set_mark, abort_of};
 
-use crate::{Core, fit};
+use crate::Core;
 use exception::enter;
 use exception::kind::Exception;
+use sysreg::regs::Control;
 use sysreg::write;
 use sysreg::write::WriteError;
+use tlb::Tlb;
+
+// What a register write does to the cache: where the shape changed, a flush; then, where the ASID differs from the
+// cache's, a retag.
+#[inline(always)]
+#[tactic(auto, unfolding(crate::specs::Fit::refit_of, tlb::specs::Maintenance::reshaped_of, tlb::specs::Maintenance::retagged_of))]
+fn refit(t: &mut Tlb, before: Control, after: Control)
+    ensures { t.new ≡ refit_of t.old before after }
+{
+    if !before.same_shaping(&after) {
+        t.flush();
+    }
+    let asid = after.asid();
+    if t.asid != asid {
+        t.retag(asid);
+    }
+}
 
 impl Core {
     /// A register write: the register, then the cache. One that is not done changes nothing.
@@ -23,7 +42,7 @@ impl Core {
             key,
             value,
         )?;
-        fit::refit(&mut self.tlb, before, self.control);
+        refit(&mut self.tlb, before, self.control);
         Ok(())
     }
 

@@ -7,7 +7,7 @@ use Rattle.word.specs.Ram.{within, written, stored, bytes_of}
 use Rattle.word.proofs.RamLaws.{digit-next, written_next}
 use Rattle.cpu.specs.Place.{byte_at, first_outside, verdict_of}
 use Rattle.cpu.specs.Bytes.{split_value, split_stored, load_of, store_ram}
-use Rattle.cpu.specs.BytesLaws.{stored-length}
+use Rattle.cpu.proofs.BytesLaws.{stored-length}
 use Rattle.cpu.specs.Place.{Lie}
 use Rattle.quick.specs.AtOnce.{both_inside, both_at, both_stored, pair_at}
 use Rattle.cpu.specs.declared.place.Pages.{Pages}

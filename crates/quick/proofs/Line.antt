@@ -10,7 +10,7 @@ use Rattle.tlb.specs.Hint.{on_page, data_slot, hint_key, hint_found}
 use Rattle.tlb.specs.Translate.{hint_in}
 use Rattle.tlb.specs.declared.access.Kind.TheVariants.{Write}
 use Rattle.cpu.specs.declared.Core.{Core}
-use Rattle.cpu.specs.ZeroLine.{zero-steady}
+use Rattle.cpu.proofs.ZeroLine.{zero-steady}
 use Rattle.quick.specs.Says.{Cleared}
 use Rattle.quick.proofs.ByHint.{address, chosen, hint-serves}
 

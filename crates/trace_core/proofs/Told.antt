@@ -19,7 +19,7 @@ use Rattle.cpu.specs.declared.call.Reply.TheVariants.{Refused, Done, Value, Faul
 use Rattle.cpu.specs.declared.Core.{Core}
 use Rattle.cpu.specs.Memory.{translate_of, read_of, write_of, fetch_of, fetch_pa_of, data_pa_of}
 use Rattle.cpu.specs.Step.{ends, load_by, store_by, refused_or, missed_by, run_of, step_of}
-use Rattle.cpu.specs.EveryCallEnds.{number-le}
+use Rattle.cpu.proofs.EveryCallEnds.{number-le}
 use Rattle.call_words.specs.Replies.{code_by, value_by}
 use Rattle.trace_core.specs.Told.{told, fault_told, data_told, insn_told}
 

@@ -19,7 +19,7 @@ use Rattle.cpu.specs.Fit.{refit_of}
 use Rattle.cpu.specs.Registers.{with_regs as coreRegs, applied_of, registered, after_register_write, with_privilege as coreWho, set_level, set_mark, abort_of}
 use Rattle.cpu.specs.System.{with_par as corePar, at_of, invalidated_of, tlbi_core, on_stored, done_with, zero_of, sys_by, sys_of}
 use Rattle.cpu.specs.Check.{missed_of}
-use Rattle.cpu.specs.EveryCallEnds.{all-passed}
+use Rattle.cpu.proofs.EveryCallEnds.{all-passed}
 use Rattle.cpu.specs.Step.{ends, load_by, store_by, run_of, refused_or, step_of}
 use Rattle.cpu.specs.declared.call.Call.TheVariants.{Translate, DataPa, FetchPa, Load, Store, Fetch, System, Register, Level, Mark}
 use Rattle.cpu.specs.declared.call.Reply.TheVariants.{Refused}

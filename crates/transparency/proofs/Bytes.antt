@@ -18,8 +18,10 @@ use Rattle.cpu.specs.Translations.{translate_in}
 use Rattle.cpu.specs.Memory.{stepped_now, translate_of}
 use Rattle.cpu.specs.OpLaws.{on_now}
 use Rattle.cpu.specs.OwnAddress.{byte_va, Ready}
-use Rattle.cpu.specs.ByteMeaning.{load_byte, store_byte, store-others, load-flat, store-flat}
-use Rattle.cpu.specs.ZeroMeaning.{zva-zeroes}
+use Rattle.cpu.proofs.ByteMeaning.{load_byte, store_byte, store-others, load-flat, store-flat}
+use Rattle.cpu.proofs.ZeroMeaning.{zva-zeroes}
+use Rattle.cpu.proofs.ByteMeaning.{load_byte, store_byte, store-others}
+use Rattle.cpu.proofs.ZeroMeaning.{zva-zeroes}
 use Rattle.cpu.specs.Check.{missed_of}
 use Rattle.cpu.specs.Step.{run_of, step_of}
 use Rattle.cpu.specs.declared.call.Call.TheVariants.{Translate}
@@ -28,7 +30,8 @@ use Rattle.history.specs.World as World
 use Rattle.history.proofs.Corollaries.{off-settled}
 use Rattle.history.specs.Calls.{Fed, lent_of, Shown, showing}
 use Rattle.history.proofs.EveryReply.{run-one, bare-one, shown-one}
-use Rattle.history.specs.Instance.{Ram, memory_of, real}
+use Rattle.history.specs.Instance.{Ram, real}
+use Rattle.history.specs.Window.{memory_of}
 use Rattle.history.proofs.Instance.{real-laws}
 use Rattle.transparency.specs.Bare.{missed_in, Ruling, allowed, ruling_in, if_allowed, bare_step}
 use Rattle.transparency.specs.Events.{plain_in}

@@ -20,7 +20,8 @@ use Rattle.cpu.specs.declared.Core.{Core}
 use Rattle.cpu.specs.declared.call.Call.TheVariants.{Census}
 use Rattle.cpu.specs.declared.call.Reply.TheVariants.{Refused, Done}
 use Rattle.cpu.specs.Step.{ends, run_of, refused_or, step_of}
-use Rattle.cpu.specs.Inspect.{counts_of, counts_after, census-core}
+use Rattle.cpu.specs.Inspect.{counts_of, counts_after}
+use Rattle.cpu.proofs.Censuses.{census-core}
 use Rattle.history.specs.World.{leaf_answer, need_now, uncached}
 use Rattle.history.specs.Fresh.{fresh_now, fresh_answer}
 use Rattle.history.proofs.Fresh.{uncached-fresh}

@@ -18,7 +18,7 @@ use Rattle.tlb.specs.Answers.{Answer}
 use Rattle.cpu.specs.Answers.{Placed, Verdict, fault_at, outside_at}
 use Rattle.cpu.specs.Bare.{Bare}
 use Rattle.cpu.specs.Place.{next_page, crosses, byte_at, first_outside, verdict_of}
-use Rattle.cpu.specs.PlaceLaws.{same-outside, same-fault}
+use Rattle.cpu.proofs.PlaceLaws.{same-outside, same-fault}
 use Rattle.cpu.specs.Bytes.{got_by, value_at, load_of, insn_of}
 use Rattle.cpu.specs.Asks.{asks_by, placed_from}
 use Rattle.cpu.specs.Ends.{reached_by, loaded_from, load_end, store_end_by, store_end, fetched_from, fetch_end}

@@ -1,4 +1,4 @@
-use Rattle.cpu.specs.Inspect.{census-core, census-ram}
+use Rattle.cpu.proofs.Censuses.{census-core, census-ram}
 use Rattle.cpu.proofs.theorems.a_census_changes_nothing.Goals as goal
 
 pub returns-clause-core : goal.returns-clause-core

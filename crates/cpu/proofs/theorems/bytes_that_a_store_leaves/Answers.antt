@@ -1,4 +1,5 @@
-use Rattle.cpu.specs.BytesLaws.{store_length, store-leaves, whole-or-none}
+use Rattle.cpu.proofs.BytesLaws.{store_length}
+use Rattle.cpu.proofs.BytesLaws.{store-leaves, whole-or-none}
 use Rattle.cpu.proofs.theorems.bytes_that_a_store_leaves.Goals as goal
 
 pub returns-clause-length_kept : goal.returns-clause-length_kept

@@ -1,5 +1,7 @@
-use Rattle.cpu.specs.OpSays.{says-by, ram-by}
-use Rattle.cpu.specs.OpLaws.{ram-length, tlb-after, kept, store-last, fetch-last, write-leaves}
+use Rattle.cpu.proofs.OpSays.{says-by, ram-by}
+use Rattle.cpu.specs.OpLaws.{tlb-after}
+use Rattle.cpu.proofs.OpLaws.{ram-length}
+use Rattle.cpu.proofs.OpLaws.{kept, store-last, fetch-last, write-leaves}
 use Rattle.cpu.proofs.theorems.effect_of_operations.Goals as goal
 
 pub returns-clause-answer : goal.returns-clause-answer

@@ -1,4 +1,4 @@
-use Rattle.cpu.specs.ZeroMeaning.{zero-line, zva-zeroes}
+use Rattle.cpu.proofs.ZeroMeaning.{zero-line, zva-zeroes}
 use Rattle.cpu.proofs.theorems.effect_of_zeroing.Goals as goal
 
 pub returns-clause-line : goal.returns-clause-line

@@ -1,4 +1,4 @@
-use Rattle.cpu.specs.PlaceLaws.{same-page, next-bytes}
+use Rattle.cpu.proofs.PlaceLaws.{same-page, next-bytes}
 use Rattle.cpu.proofs.theorems.pages_of_bytes.Goals as goal
 
 pub returns-clause-first_page : goal.returns-clause-first_page

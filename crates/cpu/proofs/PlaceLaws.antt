@@ -5,17 +5,9 @@ use Rattle.std.proofs.Common.{sym, ap, arith, ltb-true, ltb-false}
 use Rattle.fault.specs.declared.Fault.{Fault}
 use Rattle.word.specs.Bits.{wrap}
 use Rattle.word.specs.Ram.{within}
-use Rattle.cpu.specs.Place.{in_page, next_page, byte_at, first_outside, bytes_before}
+use Rattle.cpu.specs.Place.{in_page, next_page, byte_at, first_outside, bytes_before, Lowest}
 use Rattle.cpu.specs.declared.{place.Pages.Pages, place.FaultAt.FaultAt, place.Outside.Outside}
 use Rattle.cpu.specs.Answers.{Placed, Verdict, fault_at, outside_at}
-
--- the byte i is the lowest from index k on that lies outside, of n
-pub record Lowest (base len : ℕ) (p : Pages) (k n i pa : ℕ) : Type 0 where
-  pub first : k ≤ i
-  pub last : i < k + n
-  pub at : pa ≡ byte_at p i
-  pub out : within base len 1 pa ≡ false
-  pub before : (j : ℕ) → k ≤ j → j < i → within base len 1 (byte_at p j) ≡ true
 
 -- two answers that are one name one byte, or one fault at one address
 pub same-outside : (i pa j q : ℕ) → ◌≡◌ {A = Verdict} (Err (outside_at i pa)) (Err (outside_at j q)) → (i ≡ j) × (pa ≡ q)

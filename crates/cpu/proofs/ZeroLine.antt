@@ -15,10 +15,10 @@ use Rattle.cpu.specs.Place.{placed_one, verdict_of}
 use Rattle.cpu.specs.Ends.{store_end}
 use Rattle.cpu.specs.Translations.{translate_in}
 use Rattle.cpu.specs.Memory.{stepped_now, translate_of, stored_by, write_after, write_of, ram_after_write}
-use Rattle.cpu.specs.BytesLaws.{stored-length}
+use Rattle.cpu.proofs.BytesLaws.{stored-length}
 use Rattle.cpu.specs.declared.Core.{Core}
 use Rattle.cpu.specs.System.{done_with, on_stored, zero_of, zero_ram}
-use Rattle.cpu.specs.ZeroLaws.{one-located, one-ram, store_va, store-va}
+use Rattle.cpu.proofs.ZeroLaws.{one-located, one-ram, store_va, store-va}
 
 -- a translation that answers and changes nothing
 abbrev pub addressed : Core → ℕ → Translated

@@ -17,7 +17,7 @@ use Rattle.exception.specs.declared.kind.Stop.{Stop}
 use Rattle.cpu.specs.Core.{after_access, bank_now}
 use Rattle.cpu.specs.Place.{in_page, crosses, goes_on, placed_one, verdict_of}
 use Rattle.cpu.specs.Bytes.{store_ram}
-use Rattle.cpu.specs.BytesLaws.{stored-leaves}
+use Rattle.cpu.proofs.BytesLaws.{stored-leaves}
 use Rattle.cpu.specs.Translations.{one_page, translate_in, located_of}
 use Rattle.cpu.specs.Ends.{store_end, store_ram_end}
 use Rattle.cpu.specs.Memory.{stepped_now, located_now, translate_of, write_of, ram_after_write}
@@ -25,8 +25,6 @@ use Rattle.cpu.specs.OpLaws.{on_now}
 use Rattle.cpu.specs.declared.Core.{Core}
 use Rattle.cpu.specs.declared.place.Place.TheVariants.{Whole}
 use Rattle.cpu.specs.System.{done_with, on_stored, zero_of, zero_ram}
-
--- ONE STORE OF EIGHT ZERO BYTES, at an address of which it is a multiple
 
 module _ (c : Core) (base : ℕ) (ram : List ℕ) (a : ℕ) (even : a % 8 ≡ 0) where
   abbrev answer_for : Answer

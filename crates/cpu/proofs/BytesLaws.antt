@@ -1,17 +1,17 @@
--- Laws of bytes moved: RAM keeps its length, a store changes its own bytes only, and a split value is a plain one where
--- the pages lie side by side.
+-- Laws of bytes moved: RAM keeps its length, a store changes its own bytes only, and a split value is a plain one where the pages lie side by side.
 use Rattle.std.specs.Prelude.{if◌then◌else◌, ◌≡◌, ℕ, zero, suc, ◌+◌, ◌-◌, ◌/◌, ◌<◌, ◌≤◌, Bool, true, false, ◌&&◌, List, ◌++◌, length, take, drop, ◌≢◌}
 use Rattle.std.specs.Prelude.{nat_le, nat_lt, slice_index, refl, Ok, Err}
-use Rattle.std.proofs.Common.{sym, ap, ◌∙◌, arith, leb-true, leb-false, ltb-true, ltb-false, le-leb, length-append, length-drop, length-take-le, get_or-append-add, get_or-take, get_or-drop}
+use Rattle.std.proofs.Common.{sym, ap, ◌∙◌, arith, leb-true, leb-false, ltb-true, ltb-false, le-leb, length-take-le, get_or-append-add, get_or-take, get_or-drop}
 use Rattle.std.proofs.Math.ListN.{get_or-append}
 use Rattle.word.specs.Ram.{little_endian, bytes_of, within, written, stored}
 use Rattle.word.proofs.RamLaws.{length-bytes}
-use Rattle.cpu.specs.Place.{byte_at, first_outside, verdict_of, bytes_before}
-use Rattle.cpu.specs.PlaceLaws.{before-le}
+use Rattle.cpu.specs.Place.{byte_at, first_outside, verdict_of, bytes_before, address_in}
+use Rattle.cpu.proofs.PlaceLaws.{before-le}
 use Rattle.cpu.specs.Bytes.{byte_in, split_value, split_stored, store_ram}
 use Rattle.cpu.specs.declared.{place.Pages.Pages, place.Place.Place}
 use Rattle.cpu.specs.declared.place.Place.TheVariants.{Whole, Split}
 use Rattle.cpu.specs.Answers.{Verdict, outside_at}
+use Rattle.std.proofs.Common.{length-append, length-drop}
 
 written-length : (ram : List ℕ) (at n v : ℕ) → at + n ≤ length ram → length (written ram at n v) ≡ length ram
 written-length ram at n v h =
@@ -57,14 +57,6 @@ whole-or-none base ram pa n v i q = go (within base (length ram) n pa)
         → (if b then written ram (pa - base) n v else ram) ≡ ram
     go true e = let z : ◌≡◌ {A = ℕ} 0 1 = cc in absurd (omega arith)
     go false e = refl
-
--- BYTES THAT A STORE LEAVES
-
--- the physical address of byte i
-
-abbrev pub address_in : Place → ℕ → ℕ
-address_in (Whole pa) i = pa + i
-address_in (Split p) i = byte_at p i
 
 module _ (ram : List ℕ) (at n v k : ℕ) (fits : at + n ≤ length ram) where
   below : k < at → slice_index (written ram at n v) k ≡ slice_index ram k

@@ -22,7 +22,8 @@ use Rattle.tlb.specs.Translate.{access_of, tag_in, judged_in, walked_in, looked_
 use Rattle.tlb.specs.declared.{access.Kind.Kind, access.Privilege.Privilege, entry.Entry.Entry, hint.Hint.Hint, Tlb.Tlb}
 use Rattle.tlb.specs.declared.access.Kind.TheVariants.{Read, Write, Fetch}
 use Rattle.cpu.specs.Translations.{translate_in}
-use Rattle.cpu.specs.PageLaws.{answer_at, flat-at, hint-aligned, entry-aligned}
+use Rattle.cpu.proofs.PageLaws.{answer_at, flat-at, hint-aligned, entry-aligned}
+use Rattle.cpu.proofs.PageLaws.{hint-aligned, entry-aligned}
 
 address_is : {x y : ℕ} → ◌≡◌ {A = Answer} (Ok x) (Ok y) → x ≡ y
 address_is e = cc
