@@ -7,8 +7,8 @@ use Rattle.exception.specs.declared.{kind.Exception.Exception, kind.Stop.Stop}
 use Rattle.cpu.specs.declared.{call.Call.Call, call.Reply.Reply}
 use Rattle.call_words.specs.declared.{op.DecodedCall.DecodedCall, op.DecodedException.DecodedException}
 use Rattle.walk.specs.declared.level.Leaf.{Leaf}
-use Rattle.walk.specs.declared.regime.Regime.TheVariants.{El1, El2, El3}
-use Rattle.walk.specs.Regime.{regime_at}
+use Rattle.sysreg.specs.declared.regs.Regime.TheVariants.{El1, El2, El3}
+use Rattle.sysreg.specs.Regs.{regime_at}
 use Rattle.call_words.specs.Walk.{bank_at, leaf_after, code_of, walk_code}
 use Rattle.call_words.specs.Ops.{exception_of, call_of}
 use Rattle.call_words.specs.Replies.{code_by, value_by, words_by}

@@ -3,8 +3,10 @@ use Rattle.std.specs.Prelude.{if◌then◌else◌, Bool, List, [], ◌∷◌, �
 use Rattle.word.specs.Bits.{flag}
 use Rattle.word.specs.Ram.{word_at}
 use Rattle.walk.specs.Walk.{walk_of}
-use Rattle.walk.specs.declared.{regime.Regime.Regime, regime.NoSuchRegime.NoSuchRegime, regime.Bank.Bank, level.Leaf.Leaf}
-use Rattle.walk.specs.Regime.{regime_at}
+use Rattle.walk.specs.declared.{regime.Bank.Bank, level.Leaf.Leaf}
+use Rattle.sysreg.specs.declared.regs.Regime.{Regime}
+use Rattle.sysreg.specs.declared.regs.NoSuchRegime.{NoSuchRegime}
+use Rattle.sysreg.specs.Regs.{regime_at}
 use Rattle.cpu.specs.Check.{passes}
 use Rattle.walk.specs.Answers.{Walked}
 

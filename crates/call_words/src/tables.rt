@@ -4,7 +4,8 @@ ghost use Rattle.call_words.specs.Walk.{bank_at, leaf_after, walk_code, walk_wor
 
 use cpu::check;
 use walk::level::Leaf;
-use walk::regime::{Bank, Regime};
+use sysreg::regs::Regime;
+use walk::regime::Bank;
 use word::bits;
 
 // The six registers of a regime: SCTLR, TCR, TTBR0 of its own, TTBR1_EL1, SCR_EL3, HCR_EL2.

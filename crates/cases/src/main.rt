@@ -2,7 +2,8 @@
 // The worked cases of docs/SCOPE.md on the proved walk: a table of one word at 0x1008, SCTLR_EL1.M set, TCR_EL1 =
 // 25, other registers zero.
 use std::{fmt, io};
-use walk::regime::{Bank, Regime};
+use sysreg::regs::Regime;
+use walk::regime::Bank;
 
 // What a row gives: the word at 0x1008, TTBR0_EL1, the window's base, the address, and the permission bit that the
 // access needs. Shown, it is how the translation ends with an empty cache.

@@ -2,7 +2,8 @@
 use Rattle.std.specs.Prelude.{Option}
 use Rattle.std.proofs.Common.{◌≡◌, ℕ, ◌+◌, ◌-◌, ◌*◌, ◌%◌, ◌^◌, ◌<◌, ◌≤◌, List, get_or, set, ap, ◌∙◌, add-one, arith}
 use Rattle.word.specs.Bits.{wrap}
-use Rattle.walk.specs.declared.{regime.Regime.Regime, regime.Bank.Bank}
+use Rattle.walk.specs.declared.{regime.Bank.Bank}
+use Rattle.sysreg.specs.declared.regs.Regime.{Regime}
 use Rattle.walk.proofs.FreshLaws.{is-sound}
 use Rattle.census.specs.Tally.{at_most, one_more}
 use Rattle.census.specs.Count.{page_at, place_at, census_of}

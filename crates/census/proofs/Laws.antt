@@ -13,7 +13,8 @@ use Rattle.walk.proofs.FreshLaws.{fresh_on, fresh-off}
 use Rattle.walk.proofs.FreshLaws.{answer-sound}
 use Rattle.walk.specs.WalkBounds.{Status, Levelled}
 use Rattle.walk.proofs.WalkBounds.{status-small}
-use Rattle.walk.specs.declared.{regime.Regime.Regime, regime.Bank.Bank, fresh.Fresh.Fresh}
+use Rattle.walk.specs.declared.{regime.Bank.Bank, fresh.Fresh.Fresh}
+use Rattle.sysreg.specs.declared.regs.Regime.{Regime}
 use Rattle.walk.specs.declared.fresh.Fresh.TheVariants.{Flat, Ended}
 use Rattle.census.specs.Tally.{how_many, total, many-same, many-none, many-joins, shift-eqb, adds-up, at_place}
 use Rattle.census.specs.Count.{place_of, page_at, place_at, census_of}

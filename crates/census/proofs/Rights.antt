@@ -3,14 +3,16 @@ use Rattle.std.specs.Prelude.{if◌then◌else◌, ◌≡◌, ℕ, ◌+◌, ◌<
 use Rattle.std.proofs.Common.{sym, ap, ◌∙◌, arith, ne_eqb}
 use Rattle.word.specs.Bits.{flag}
 use Rattle.word.proofs.BitLaws.{both}
-use Rattle.walk.specs.Regime.{single_priv, wxn_of, stage1_on}
+use Rattle.walk.specs.Regime.{wxn_of, stage1_on}
+use Rattle.sysreg.specs.Regs.{single_priv}
 use Rattle.walk.specs.Tag.{untagged}
 use Rattle.walk.specs.Table.{Result, mapped, faults, table_walk}
 use Rattle.walk.specs.Permission.{permission_byte}
 use Rattle.walk.specs.Walk.{walked_of, walk_of}
 use Rattle.walk.specs.Flat.{flat_by}
 use Rattle.walk.specs.Fresh.{flat_end, fresh_of}
-use Rattle.walk.specs.declared.{regime.Regime.Regime, regime.Bank.Bank, rights.Permissions.Permissions}
+use Rattle.walk.specs.declared.{regime.Bank.Bank, rights.Permissions.Permissions}
+use Rattle.sysreg.specs.declared.regs.Regime.{Regime}
 use Rattle.walk.specs.declared.fresh.Fresh.TheVariants.{Flat, Ended}
 use Rattle.walk.specs.WalkBounds.{SoundFresh}
 use Rattle.walk.proofs.WalkBounds.{status-small}

@@ -9,7 +9,7 @@ use Rattle.walk.specs.Table.{range_of, params_of, table_next, leaf_permissions, 
 use Rattle.walk.specs.Table.{walk_range, table_walk}
 use Rattle.walk.specs.Walk.{walk_of}
 use Rattle.walk.specs.Fresh.{fresh_of}
-use Rattle.walk.specs.declared.regime.Regime.TheVariants.{El1}
+use Rattle.sysreg.specs.declared.regs.Regime.TheVariants.{El1}
 use Rattle.walk.specs.declared.regime.Bank.{Bank}
 use Rattle.census.specs.Tally.{how_many}
 use Rattle.census.specs.Count.{census_of, census_at}

@@ -3,9 +3,11 @@
 use Rattle.std.specs.Prelude.{ℕ, ◌+◌, ◌*◌, List, Option, Ok, Err}
 use Rattle.word.specs.Bits.{align_down, wrap}
 use Rattle.sysreg.specs.declared.regs.Control.{Control}
-use Rattle.walk.specs.Regime.{bank_of, regime_of}
+use Rattle.walk.specs.Regime.{bank_of}
+use Rattle.sysreg.specs.Regs.{regime_of}
 use Rattle.walk.specs.Fresh.{fresh_of}
-use Rattle.walk.specs.declared.{regime.Regime.Regime, regime.Bank.Bank, fresh.Fresh.Fresh}
+use Rattle.walk.specs.declared.{regime.Bank.Bank, fresh.Fresh.Fresh}
+use Rattle.sysreg.specs.declared.regs.Regime.{Regime}
 use Rattle.walk.specs.declared.fresh.Fresh.TheVariants.{Flat, Ended}
 use Rattle.census.specs.Tally.{tally}
 use Rattle.walk.specs.Answers.{Walked}

@@ -2,7 +2,8 @@
 -- `theorems`.
 use Rattle.std.specs.Prelude.{◌≡◌, ℕ, ◌<◌, ◌≤◌, Bool, true, false, ◌⊎◌, ◌==◌, slice_index, Option, Ok, Err}
 use Rattle.walk.specs.Fresh.{fresh_of}
-use Rattle.walk.specs.declared.{regime.Regime.Regime, regime.Bank.Bank, fresh.Fresh.Fresh}
+use Rattle.walk.specs.declared.{regime.Bank.Bank, fresh.Fresh.Fresh}
+use Rattle.sysreg.specs.declared.regs.Regime.{Regime}
 use Rattle.walk.specs.declared.fresh.Fresh.TheVariants.{Flat, Ended}
 use Rattle.census.specs.Count.{page_at, census_of}
 

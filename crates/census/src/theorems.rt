@@ -3,7 +3,7 @@ ghost use Rattle.std.specs.Prelude.{◌≡◌, ℕ, ◌+◌, ◌*◌, ◌/◌, �
 ghost use Rattle.word.specs.Bits.{wrap};
 ghost use Rattle.walk.specs.Regime.{stage1_on};
 ghost use Rattle.walk.specs.Flat.{flat_of};
-ghost use Rattle.walk.specs.declared.regime.Regime.{Regime};
+ghost use Rattle.sysreg.specs.declared.regs.Regime.{Regime};
 ghost use Rattle.walk.specs.declared.regime.Bank.{Bank};
 ghost use Rattle.census.specs.Tally.{how_many, total};
 ghost use Rattle.census.specs.Count.{page_at, census_of};

@@ -6,7 +6,7 @@ use std::alloc::{AllocError, Global};
 use std::cmp::Reverse;
 use std::io;
 use std::io::Write;
-use walk::regime::Regime;
+use sysreg::regs::Regime;
 use walk_report::explain;
 use walk_report::fields::Rights;
 

@@ -3,8 +3,10 @@ use Rattle.std.specs.Prelude.{List, ℕ, zero, suc, length}
 use Rattle.std.proofs.Common.{◌≡◌, refl, sym, ap, ◌∙◌}
 use Rattle.std.proofs.Common.{arith}
 use Rattle.word.specs.Ram.{word_at}
-use Rattle.walk.specs.Regime.{bank_of, regime_of}
-use Rattle.walk.specs.declared.{regime.Regime.Regime, regime.Bank.Bank}
+use Rattle.walk.specs.Regime.{bank_of}
+use Rattle.sysreg.specs.Regs.{regime_of}
+use Rattle.walk.specs.declared.{regime.Bank.Bank}
+use Rattle.sysreg.specs.declared.regs.Regime.{Regime}
 use Rattle.census.specs.Count.{census_of}
 use Rattle.cpu.specs.Check.{missed_of}
 use Rattle.cpu.specs.declared.call.Call.TheVariants.{Census}

@@ -6,7 +6,8 @@ ghost use Rattle.core_calls.specs.Promise.{CensusPromise};
 
 use census::count;
 use cpu::{Core, check};
-use walk::regime::{Bank, Regime};
+use sysreg::regs::Regime;
+use walk::regime::Bank;
 
 // The number of the first check that a census misses, or 0.
 fn missed_check(core: &Core, base: u64, len: u64, first: u64, pages: u64) -> u8

@@ -1,18 +1,16 @@
 -- The parts of a core that a caller reads, as words.
 use Rattle.std.specs.Prelude.{if◌then◌else◌, List, [], ◌∷◌, ℕ, Option, Some, None, ◌^◌, nat_lt}
 use Rattle.word.specs.Bits.{flag}
-use Rattle.sysreg.specs.Regs.{control_at, sys_at}
+use Rattle.sysreg.specs.Regs.{reg_at}
 use Rattle.sysreg.specs.Encoding.{register_at}
 use Rattle.sysreg.specs.declared.regs.Register.{Register}
-use Rattle.sysreg.specs.declared.regs.Register.TheVariants.{InControl, InSys}
 use Rattle.tlb.specs.declared.{entry.Entry.Entry, hint.Hint.Hint, hint.FetchHint.FetchHint, Inval.Inval}
 use Rattle.tlb.specs.declared.Inval.TheVariants.{All, Page, Asid}
 use Rattle.cpu.specs.declared.Core.{Core}
 
 -- what a register holds, where there is one
 abbrev pub held_by : Core → Option Register → Option ℕ
-held_by c (Some (InControl r)) = Some (control_at c.control r)
-held_by c (Some (InSys r)) = Some (sys_at c.sys r)
+held_by c (Some r) = Some (reg_at c.control c.sys r)
 held_by c None = None
 
 -- the register that a key names; a key that no 32 bits hold names none

@@ -1,7 +1,7 @@
 // Readers. None changes the core.
 ghost use Rattle.std.specs.Prelude.{◌≡◌};
 ghost use Rattle.word.specs.Bits.{flag};
-ghost use Rattle.sysreg.specs.Regs.{control_at, sys_at};
+ghost use Rattle.sysreg.specs.Regs.{reg_at};
 ghost use Rattle.exception.specs.Pstate.{spsr_of};
 ghost use Rattle.tlb.specs.Tlb.{entry_at, hint_at};
 ghost use Rattle.tlb.specs.Count.{tally_at};
@@ -11,39 +11,33 @@ ghost use Rattle.core_parts.specs.Read.{hint_words, fetch_words};
 
 use cpu::Core;
 use sysreg::encoding;
-use sysreg::regs::{Control, ControlReg, Register, SysReg, SysRegs};
+use sysreg::regs::{Control, Register, SysRegs};
 use tlb::Inval;
 use tlb::count::Tally;
 use tlb::entry::Entry;
 use tlb::hint::{Hint, NO_HINT};
 use word::bits;
 
-fn control_at(control: &Control, register: ControlReg) -> u64
-    ensures { result ≡ control_at control.now register }
+// What a register holds.
+fn reg_at(control: &Control, sys: &SysRegs, register: Register) -> u64
+    ensures { result ≡ reg_at control.now sys.now register }
 {
     match register {
-        ControlReg::Sctlr(el) => control.sctlr[el.index()],
-        ControlReg::Tcr(el) => control.tcr[el.index()],
-        ControlReg::Ttbr0(el) => control.ttbr0[el.index()],
-        ControlReg::Ttbr1 => control.ttbr1_el1,
-        ControlReg::Scr => control.scr_el3,
-        ControlReg::Hcr => control.hcr_el2,
-    }
-}
-
-fn sys_at(sys: &SysRegs, register: SysReg) -> u64
-    ensures { result ≡ sys_at sys.now register }
-{
-    match register {
-        SysReg::Mair(el) => sys.mair[el.index()],
-        SysReg::Vbar(el) => sys.vbar[el.index()],
-        SysReg::Elr(el) => sys.elr[el.index()],
-        SysReg::Spsr(el) => sys.spsr[el.index()],
-        SysReg::Esr(el) => sys.esr[el.index()],
-        SysReg::Far(el) => sys.far[el.index()],
-        SysReg::Vpidr => sys.vpidr_el2,
-        SysReg::Vmpidr => sys.vmpidr_el2,
-        SysReg::Par => sys.par_el1,
+        Register::Sctlr(r) => control.sctlr[r.index()],
+        Register::Tcr(r) => control.tcr[r.index()],
+        Register::Ttbr0(r) => control.ttbr0[r.index()],
+        Register::Ttbr1 => control.ttbr1_el1,
+        Register::Scr => control.scr_el3,
+        Register::Hcr => control.hcr_el2,
+        Register::Mair(r) => sys.mair[r.index()],
+        Register::Vbar(r) => sys.vbar[r.index()],
+        Register::Elr(r) => sys.elr[r.index()],
+        Register::Spsr(r) => sys.spsr[r.index()],
+        Register::Esr(r) => sys.esr[r.index()],
+        Register::Far(r) => sys.far[r.index()],
+        Register::Vpidr => sys.vpidr_el2,
+        Register::Vmpidr => sys.vmpidr_el2,
+        Register::Par => sys.par_el1,
     }
 }
 
@@ -54,8 +48,7 @@ pub fn register_of(core: &Core, key: u64) -> Option<u64>
 {
     if key < 0x1_0000_0000 {
         match encoding::named(key as u32) {
-            Some(Register::InControl(register)) => Some(control_at(&core.control, register)),
-            Some(Register::InSys(register)) => Some(sys_at(&core.sys, register)),
+            Some(register) => Some(reg_at(&core.control, &core.sys, register)),
             None => None,
         }
     } else {

@@ -1,14 +1,13 @@
 -- No call writes place 0 of an array by level.
 use Rattle.std.specs.Prelude.{if◌then◌else◌, ◌≡◌, ℕ, List, [], ◌∷◌, Bool, true, false, ◌==◌, get_or, Option, Some, None, Err}
 use Rattle.std.proofs.Common.{sym, ap, ◌∙◌}
+use Rattle.sysreg.specs.Regs.{in_control}
 use Rattle.sysreg.specs.Encoding.{register_at}
-use Rattle.sysreg.specs.Write.{bank, control_after, sys_after, control_with, sys_with, ended, wrote, write_found, write_reg}
+use Rattle.sysreg.specs.Write.{bank, held_after, control_with, sys_with, Done, ended, Written, write_found, write_reg}
 use Rattle.sysreg.specs.declared.write.WriteError.TheVariants.{Undefined}
-use Rattle.sysreg.specs.declared.{regs.Control.Control, regs.SysRegs.SysRegs, regs.El.El}
-use Rattle.sysreg.specs.declared.{regs.ControlReg.ControlReg, regs.SysReg.SysReg, regs.Register.Register}
-use Rattle.sysreg.specs.declared.regs.ControlReg.TheVariants.{Sctlr, Tcr, Ttbr0}
-use Rattle.sysreg.specs.declared.regs.SysReg.TheVariants.{Mair, Vbar, Elr, Spsr, Esr, Far}
-use Rattle.sysreg.specs.declared.regs.Register.TheVariants.{InControl, InSys}
+use Rattle.sysreg.specs.declared.{regs.Control.Control, regs.SysRegs.SysRegs, regs.Regime.Regime}
+use Rattle.sysreg.specs.declared.{regs.Register.Register}
+use Rattle.sysreg.specs.declared.regs.Register.TheVariants.{Sctlr, Tcr, Ttbr0, Mair, Vbar, Elr, Spsr, Esr, Far}
 use Rattle.exception.specs.Entry.{same_el, at_target, updated, entered_sys, enter_of, take_sync}
 use Rattle.system.specs.declared.decode.SysOp.{SysOp}
 use Rattle.cpu.specs.Bare.{Bare, bare_of}
@@ -30,34 +29,34 @@ use Rattle.core_transparency.specs.Whole.{call_keeps_whole, made_is_whole, made_
 
 -- ARRAYS BY LEVEL
 
-bank-whole : (f : El → ℕ → ℕ) (l : List ℕ) → placed l ≡ l → placed (bank f l) ≡ bank f l
+bank-whole : (f : Regime → ℕ → ℕ) (l : List ℕ) → placed l ≡ l → placed (bank f l) ≡ bank f l
 bank-whole f l e =
     let z : 0 ≡ get_or l 0 0 = ap (λ (k : List ℕ). get_or k 0 0) e in
-    ap (λ (n : ℕ). n ∷ f El.El1 (get_or l 1 0) ∷ f El.El2 (get_or l 2 0) ∷ f El.El3 (get_or l 3 0) ∷ []) z
+    ap (λ (n : ℕ). n ∷ f El1 (get_or l 1 0) ∷ f El2 (get_or l 2 0) ∷ f El3 (get_or l 3 0) ∷ []) z
 
 -- REGISTER WRITES
 
-control-whole : (k : Control) (r : ControlReg) (v : ℕ) → held_control k ≡ k → held_control (control_with k r v) ≡ control_with k r v
+control-whole : (k : Control) (r : Register) (v : ℕ) → held_control k ≡ k → held_control (control_with k r v) ≡ control_with k r v
 unfolding control_with
 control-whole k r v e =
     λ i.
     record (control_with k r v) {
-      sctlr = bank-whole (λ el. control_after r v (Sctlr el)) k.sctlr (ap (λ (c : Control). c.sctlr) e) i;
-      tcr = bank-whole (λ el. control_after r v (Tcr el)) k.tcr (ap (λ (c : Control). c.tcr) e) i;
-      ttbr0 = bank-whole (λ el. control_after r v (Ttbr0 el)) k.ttbr0 (ap (λ (c : Control). c.ttbr0) e) i;
+      sctlr = bank-whole (λ el. held_after r v (Sctlr el)) k.sctlr (ap (λ (c : Control). c.sctlr) e) i;
+      tcr = bank-whole (λ el. held_after r v (Tcr el)) k.tcr (ap (λ (c : Control). c.tcr) e) i;
+      ttbr0 = bank-whole (λ el. held_after r v (Ttbr0 el)) k.ttbr0 (ap (λ (c : Control). c.ttbr0) e) i;
     }
 
-sys-whole : (s : SysRegs) (r : SysReg) (v : ℕ) → held_sys s ≡ s → held_sys (sys_with s r v) ≡ sys_with s r v
+sys-whole : (s : SysRegs) (r : Register) (v : ℕ) → held_sys s ≡ s → held_sys (sys_with s r v) ≡ sys_with s r v
 unfolding sys_with
 sys-whole s r v e =
     λ i.
     record (sys_with s r v) {
-      mair = bank-whole (λ el. sys_after r v (Mair el)) s.mair (ap (λ (t : SysRegs). t.mair) e) i;
-      vbar = bank-whole (λ el. sys_after r v (Vbar el)) s.vbar (ap (λ (t : SysRegs). t.vbar) e) i;
-      elr = bank-whole (λ el. sys_after r v (Elr el)) s.elr (ap (λ (t : SysRegs). t.elr) e) i;
-      spsr = bank-whole (λ el. sys_after r v (Spsr el)) s.spsr (ap (λ (t : SysRegs). t.spsr) e) i;
-      esr = bank-whole (λ el. sys_after r v (Esr el)) s.esr (ap (λ (t : SysRegs). t.esr) e) i;
-      far = bank-whole (λ el. sys_after r v (Far el)) s.far (ap (λ (t : SysRegs). t.far) e) i;
+      mair = bank-whole (λ el. held_after r v (Mair el)) s.mair (ap (λ (t : SysRegs). t.mair) e) i;
+      vbar = bank-whole (λ el. held_after r v (Vbar el)) s.vbar (ap (λ (t : SysRegs). t.vbar) e) i;
+      elr = bank-whole (λ el. held_after r v (Elr el)) s.elr (ap (λ (t : SysRegs). t.elr) e) i;
+      spsr = bank-whole (λ el. held_after r v (Spsr el)) s.spsr (ap (λ (t : SysRegs). t.spsr) e) i;
+      esr = bank-whole (λ el. held_after r v (Esr el)) s.esr (ap (λ (t : SysRegs). t.esr) e) i;
+      far = bank-whole (λ el. held_after r v (Far el)) s.far (ap (λ (t : SysRegs). t.far) e) i;
     }
 
 -- registers that words hold
@@ -68,24 +67,26 @@ record WholeRegs (k : Control) (s : SysRegs) : Type 0 where
 found-whole : (k : Control) (s : SysRegs) (level : ℕ) (f : Option Register) (v : ℕ) → WholeRegs k s
     → WholeRegs (write_found k s level f v).control (write_found k s level f v).sys
 found-whole k s level None v w = w
-found-whole k s level (Some r) v w = go (level == 0) r
+found-whole k s level (Some r) v w = go (level == 0) (in_control r)
   where
-    go : (b : Bool) (q : Register)
-        → WholeRegs (if b then ended k s (Err Undefined) else wrote k s q v).control (if b then ended k s (Err Undefined) else wrote k s q v).sys
-    go true q = w
-    go false (InControl q) = record { control = control-whole k q v w.control; sys = w.sys }
-    go false (InSys q) = record { control = w.control; sys = sys-whole s q v w.sys }
+    end : Bool → Bool → Written
+    end b d = if b then ended k s (Err Undefined) else if d then ended (control_with k r v) s Done else ended k (sys_with s r v) Done
+
+    go : (b d : Bool) → WholeRegs (end b d).control (end b d).sys
+    go true d = w
+    go false true = record { control = control-whole k r v w.control; sys = w.sys }
+    go false false = record { control = w.control; sys = sys-whole s r v w.sys }
 
 -- ABORT ENTRY
 
-target-whole : (el : El) (v : ℕ) (l : List ℕ) → placed l ≡ l → placed (at_target el v l) ≡ at_target el v l
-target-whole el v l e = bank-whole (λ (x : El) (h : ℕ). if same_el x el then v else h) l e
+target-whole : (el : Regime) (v : ℕ) (l : List ℕ) → placed l ≡ l → placed (at_target el v l) ≡ at_target el v l
+target-whole el v l e = bank-whole (λ (x : Regime) (h : ℕ). if same_el x el then v else h) l e
 
-updated-whole : (el : El) (a : Option ℕ) (l : List ℕ) → placed l ≡ l → placed (updated el a l) ≡ updated el a l
+updated-whole : (el : Regime) (a : Option ℕ) (l : List ℕ) → placed l ≡ l → placed (updated el a l) ≡ updated el a l
 updated-whole el (Some v) l e = target-whole el v l e
 updated-whole el None l e = e
 
-entered-whole : (s : SysRegs) (el : El) (esr far : Option ℕ) (spsr ret : ℕ) → held_sys s ≡ s
+entered-whole : (s : SysRegs) (el : Regime) (esr far : Option ℕ) (spsr ret : ℕ) → held_sys s ≡ s
     → held_sys (entered_sys s el esr far spsr ret) ≡ entered_sys s el esr far spsr ret
 unfolding entered_sys
 entered-whole s el esr far spsr ret e =

@@ -8,10 +8,10 @@ use Rattle.word.specs.Bits.{wrap, align_down}
 use Rattle.word.proofs.BitLaws.{both}
 use Rattle.word.specs.Ram.{word_at, width_of, bytes_in, within}
 use Rattle.sysreg.specs.Encoding.{register_at}
-use Rattle.sysreg.specs.Write.{names, ended, wrote, write_found, write_reg, WriteAnswer}
+use Rattle.sysreg.specs.Regs.{in_control}
+use Rattle.sysreg.specs.Write.{names, control_with, sys_with, ended, write_found, write_reg, WriteAnswer}
 use Rattle.sysreg.specs.declared.{regs.Control.Control, regs.SysRegs.SysRegs}
 use Rattle.sysreg.specs.declared.regs.Register.{Register}
-use Rattle.sysreg.specs.declared.regs.Register.TheVariants.{InControl, InSys}
 use Rattle.tlb.specs.Answers.{Answer}
 use Rattle.cpu.specs.Answers.{Placed, Verdict, LoadAnswer, StoreAnswer, FetchAnswer}
 use Rattle.tlb.specs.declared.access.Kind.TheVariants as Kind
@@ -156,12 +156,12 @@ code (Err NoRegister) = 1
 named-write : (k : Control) (s : SysRegs) (level v : ℕ) (f : Option Register) → names f ≡ true → code (write_found k s level f v).answer ≡ 0
 unfolding code
 named-write k s level v None h = let z : ◌≡◌ {A = ℕ} 0 1 = ap (λ (x : Bool). (if x then 1 else 0)) h in omega arith
-named-write k s level v (Some r) h = go (level == 0) r
+named-write k s level v (Some r) h = go (level == 0) (in_control r)
   where
-    go : (x : Bool) (q : Register) → code (if x then ended k s (Err Undefined) else wrote k s q v).answer ≡ 0
-    go true q = refl
-    go false (InControl q) = refl
-    go false (InSys q) = refl
+    go : (x y : Bool) → code (if x then ended k s (Err Undefined) else if y then ended (control_with k r v) s (Ok tt) else ended k (sys_with s r v) (Ok tt)).answer ≡ 0
+    go true y = refl
+    go false true = refl
+    go false false = refl
 
 module _ (c : Core) (base : ℕ) (ram : List ℕ) where
   translated : (d : Core) (va : ℕ) (a : Answer) → Ran c ram d ram (outcome_of (translation va a))

@@ -6,7 +6,7 @@ use Rattle.std.proofs.Common.{sym, ap, subst, ◌∙◌, arith, ltb-true, ltb-fa
 use Rattle.std.proofs.Math.Nat.{mod-mod}
 use Rattle.word.specs.Bits.{wrap}
 use Rattle.word.specs.Ram.{word_at}
-use Rattle.walk.specs.Regime.{regime_of}
+use Rattle.sysreg.specs.Regs.{regime_of}
 use Rattle.walk.specs.WalkBounds.{SoundWalked}
 use Rattle.walk.proofs.WalkBounds.{walk-sound}
 use Rattle.tlb.specs.Live.{WellFormed}

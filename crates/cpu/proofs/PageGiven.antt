@@ -8,7 +8,7 @@ use Rattle.std.proofs.Math.Seq.{get_or-set_same}
 use Rattle.fault.specs.First.{first}
 use Rattle.walk.specs.Answers.{Walked}
 use Rattle.walk.proofs.TagLaws.{untagged-page, untagged-offset}
-use Rattle.walk.specs.Regime.{regime_of}
+use Rattle.sysreg.specs.Regs.{regime_of}
 use Rattle.walk.specs.declared.{regime.Bank.Bank}
 use Rattle.tlb.specs.Access.{may_hint, right_of, has_right, judged, flat_answer, user_of}
 use Rattle.tlb.specs.Answers.{Answer, Outcome}

@@ -4,12 +4,12 @@ use Rattle.std.proofs.Math.Path.{refl, ap}
 use Rattle.std.proofs.Common.{sym, ◌∙◌, arith, ltb-true, ltb-false}
 use Rattle.fault.specs.First.{first}
 use Rattle.walk.specs.Answers.{Walked}
-use Rattle.walk.specs.Regime.{regime_of}
+use Rattle.sysreg.specs.Regs.{regime_of, index_of}
 use Rattle.walk.proofs.TagLaws.{untagged-page, untagged-offset}
 use Rattle.walk.specs.PageLaws.{paged, paged_leaf}
 use Rattle.walk.proofs.PageLaws.{walk_of-page}
 use Rattle.walk.specs.declared.{regime.Bank.Bank, level.Leaf.Leaf}
-use Rattle.tlb.specs.Access.{may_hint, regime_number, user_of, right_of, has_right, judged, flat_answer}
+use Rattle.tlb.specs.Access.{may_hint, user_of, right_of, has_right, judged, flat_answer}
 use Rattle.tlb.proofs.FlatLaws.{flat-fits, flat-large}
 use Rattle.tlb.specs.Answers.{Answer, Outcome}
 use Rattle.tlb.proofs.Cells.{or-page}
@@ -82,7 +82,7 @@ module _ (s : Bank) (privilege : Privilege) (memory : ℕ → Option ℕ) (kind 
   untagged-is = untagged-page s.tcr (regime_of privilege.level) a b same
 
   tags : tag_in (of a) ≡ tag_in (of b)
-  tags = ap (λ (n : ℕ). n * 4 + regime_number (regime_of privilege.level)) untagged-is
+  tags = ap (λ (n : ℕ). n * 4 + index_of (regime_of privilege.level)) untagged-is
 
   walk-page : (v w : Walked) → paged v ≡ paged w → (walked_in w (of b) t).answer ≡ answer_at (walked_in v (of a) t).answer b
   unfolding walked_in

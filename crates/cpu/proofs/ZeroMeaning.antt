@@ -7,7 +7,8 @@ use native.Mathlib.Omega.{arith}
 use borrow.Author.Tests.{ltb-true, ltb-false, le-leb}
 use Rattle.word.specs.Bits.{align_down}
 use Rattle.word.specs.Ram.{within, word_at, stored}
-use Rattle.walk.specs.Regime.{bank_of, regime_of}
+use Rattle.walk.specs.Regime.{bank_of}
+use Rattle.sysreg.specs.Regs.{regime_of}
 use Rattle.tlb.specs.Live.{WellFormed}
 use Rattle.tlb.specs.declared.access.Kind.TheVariants.{Write}
 use Rattle.tlb.specs.Answers.{Answer}

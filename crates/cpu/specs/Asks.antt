@@ -4,7 +4,8 @@ use Rattle.cpu.specs.Results.{Stepped}
 use Rattle.std.specs.Prelude.{if◌then◌else◌, ◌≡◌, ℕ, Bool, true, false, List, [], ◌∷◌, Option, Ok, Err}
 use Rattle.std.proofs.Math.Path.{refl}
 use Rattle.fault.specs.First.{first}
-use Rattle.walk.specs.Regime.{stage1_on, regime_of}
+use Rattle.walk.specs.Regime.{stage1_on}
+use Rattle.sysreg.specs.Regs.{regime_of}
 use Rattle.walk.specs.declared.regime.Bank.{Bank}
 use Rattle.tlb.specs.Model.{Access}
 use Rattle.tlb.specs.Translate.{access_of}

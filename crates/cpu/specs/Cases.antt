@@ -11,7 +11,7 @@ use Rattle.walk.specs.Size.{pa_size}
 use Rattle.walk.specs.Table.{range_of, params_of, table_next, leaf_permissions, leaf_translation, leaf_result, level_next, descaddr, lookup_next, walk_from, walk_range}
 use Rattle.walk.specs.Table.{table_walk}
 use Rattle.walk.specs.Walk.{walk_of}
-use Rattle.walk.specs.declared.regime.Regime.TheVariants.{El1}
+use Rattle.sysreg.specs.declared.regs.Regime.TheVariants.{El1}
 use Rattle.tlb.specs.Access.{judged}
 use Rattle.tlb.specs.Tlb.{blanks, no_hints, get_of, put_of}
 use Rattle.tlb.specs.Hint.{place_of}

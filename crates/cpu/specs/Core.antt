@@ -1,6 +1,7 @@
 -- The core: how it starts, its general registers, and its parts put back.
 use Rattle.std.specs.Prelude.{ℕ}
-use Rattle.walk.specs.Regime.{bank_of, regime_of}
+use Rattle.walk.specs.Regime.{bank_of}
+use Rattle.sysreg.specs.Regs.{regime_of}
 use Rattle.walk.specs.declared.regime.Bank.{Bank}
 use Rattle.tlb.specs.Tlb.{fresh}
 use Rattle.tlb.specs.declared.Tlb.{Tlb}

@@ -4,7 +4,8 @@ use Rattle.std.specs.Prelude.{◌≡◌, ℕ, Bool, List, [], ◌∷◌}
 use Rattle.std.proofs.Common.{sym}
 use Rattle.std.proofs.Math.Path.{ap}
 use Rattle.word.specs.Ram.{word_at}
-use Rattle.walk.specs.Regime.{stage1_on, regime_of}
+use Rattle.walk.specs.Regime.{stage1_on}
+use Rattle.sysreg.specs.Regs.{regime_of}
 use Rattle.tlb.specs.Model.{Access}
 use Rattle.tlb.specs.Asks.{Ask, translates, fetches, answer_of, tlb_ask, answers, tlb_asks}
 use Rattle.tlb.proofs.Asks.{onward-same}

@@ -5,9 +5,8 @@ use Rattle.word.specs.Bits.{align_down, wrap}
 use Rattle.word.specs.Ram.{word_at}
 use Rattle.sysreg.specs.Regs.{sys_at}
 use Rattle.sysreg.specs.declared.regs.SysRegs.{SysRegs}
-use Rattle.sysreg.specs.declared.regs.SysReg.TheVariants.{Mair}
-use Rattle.walk.specs.Regime.{own_level}
-use Rattle.walk.specs.declared.regime.Regime.{Regime}
+use Rattle.sysreg.specs.declared.regs.Register.TheVariants.{Mair}
+use Rattle.sysreg.specs.declared.regs.Regime.{Regime}
 unfoldable pub use Rattle.tlb.specs.Maintenance.{invalidated_of}
 use Rattle.exception.specs.declared.kind.Exception.TheVariants as Exception
 use Rattle.exception.specs.declared.kind.Stop.TheVariants as Stop
@@ -25,7 +24,7 @@ use Rattle.cpu.specs.Answers.{StoreAnswer}
 
 -- MAIR of a regime
 abbrev pub mair_of : SysRegs → Regime → ℕ
-mair_of s r = sys_at s (Mair (own_level r))
+mair_of s r = sys_at s (Mair r)
 
 unfoldable pub with_par : Core → ℕ → Core
 with_par c par = in_core c (Bare.with_par (bare_of c) par)

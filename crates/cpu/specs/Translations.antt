@@ -3,7 +3,8 @@
 -- `OwnAddress`, where each byte then lies.
 use Rattle.cpu.specs.Results.{Stepped, Located}
 use Rattle.std.specs.Prelude.{if◌then◌else◌, ℕ, Option}
-use Rattle.walk.specs.Regime.{stage1_on, regime_of}
+use Rattle.walk.specs.Regime.{stage1_on}
+use Rattle.sysreg.specs.Regs.{regime_of}
 use Rattle.walk.specs.declared.regime.Bank.{Bank}
 use Rattle.tlb.specs.Translate.{access_of, past_hint_in, translation_in, tlb_after, fetch_in, fetched_in}
 use Rattle.tlb.specs.declared.{access.Kind.Kind, access.Privilege.Privilege, Tlb.Tlb}

@@ -2,13 +2,13 @@
 // The core, as one machine: its memory, its system operations, its registers, and each call, checked in the order of
 // docs/SCOPE.md and then done.
 ghost use Rattle.std.specs.Prelude.{◌≡◌};
-ghost use Rattle.walk.specs.Regime.{regime_of};
+ghost use Rattle.sysreg.specs.Regs.{regime_of};
 
 use exception::flags::Flags;
-use sysreg::regs::{Control, SysRegs};
+use sysreg::regs::{Control, Regime, SysRegs};
 use tlb::Tlb;
 use tlb::access::Privilege;
-use walk::regime::{Bank, Regime};
+use walk::regime::Bank;
 
 pub mod bytes;
 pub mod call;

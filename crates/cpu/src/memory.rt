@@ -15,7 +15,8 @@ use fault::Fault;
 use tlb::access::{Kind, Request};
 use tlb::hint::FetchHint;
 use walk::fsc::FSC_EXTERNAL;
-use walk::regime::{Bank, Regime};
+use sysreg::regs::Regime;
+use walk::regime::Bank;
 use word::ram::Width;
 
 // An external abort's.

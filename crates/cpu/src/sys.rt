@@ -58,7 +58,8 @@ impl Core {
     /// A system operation.
     #[tactic(auto, unfolding(crate::specs::System::sys_of, crate::specs::System::sys_ram))]
     pub fn sys(&mut self, base: u64, ram: &mut [u8], e: Encoding) -> Result<(), Stop>
-        ensures value { record { core = self.new; answer = result } ≡ sys_of self.old base ram.old e.op1 e.crn e.crm e.op2 e.rt }
+        ensures value { record { core = self.new; answer = result }
+            ≡ sys_of self.old base ram.old e.op1 e.crn e.crm e.op2 e.rt }
         ensures ram_after { ram.new ≡ sys_ram self.old base ram.old e.op1 e.crn e.crm e.op2 e.rt }
     {
         let x = self.reg(e.rt);

@@ -3,9 +3,9 @@
 use Rattle.std.specs.Prelude.{◌≡◌, ℕ, Bool, true, false, List, [], ◌∷◌, None}
 use Rattle.fault.specs.First.{first}
 use Rattle.sysreg.specs.Regs.{levels, sys_at}
-use Rattle.sysreg.specs.declared.{regs.El.El, regs.SysRegs.SysRegs}
-use Rattle.sysreg.specs.declared.regs.El.TheVariants.{El1, El2, El3}
-use Rattle.sysreg.specs.declared.regs.SysReg.TheVariants.{Elr, Spsr, Esr, Far}
+use Rattle.sysreg.specs.declared.{regs.Regime.Regime, regs.SysRegs.SysRegs}
+use Rattle.sysreg.specs.declared.regs.Regime.TheVariants.{El1, El2, El3}
+use Rattle.sysreg.specs.declared.regs.Register.TheVariants.{Elr, Spsr, Esr, Far}
 use Rattle.exception.specs.declared.{kind.Exception.Exception, flags.Flags.Flags}
 use Rattle.exception.specs.declared.kind.Exception.TheVariants.{Svc, Hvc, Smc, Brk, PcAlignment}
 use Rattle.exception.specs.Abort.{data_abort_at, insn_abort_at}
@@ -34,11 +34,11 @@ abbrev pub masked : Bool → Flags
 masked sp = record { nzcv = 0; daif = 0x3C0; spsel = sp }
 
 -- the level, the PC, and ESR, FAR, ELR, SPSR of a level
-abbrev pub seen : El → Entered → List ℕ
+abbrev pub seen : Regime → Entered → List ℕ
 seen el n = n.level ∷ n.pc ∷ sys_at n.sys (Esr el) ∷ sys_at n.sys (Far el) ∷ sys_at n.sys (Elr el) ∷ sys_at n.sys (Spsr el) ∷ []
 
 -- an exception at a level, with SCR_EL3 and HCR_EL2, and what is seen at a level
-abbrev pub entry : ℕ → Flags → ℕ → ℕ → Exception → El → List ℕ
+abbrev pub entry : ℕ → Flags → ℕ → ℕ → Exception → Regime → List ℕ
 entry level f scr hcr e el = seen el (take_sync level f 0x8000 scr hcr registers e)
 
 -- case 13 again, and entries of each kind

@@ -2,10 +2,10 @@
 -- docs/DIFFERENCES.md.
 use Rattle.std.specs.Prelude.{if◌then◌else◌, ℕ, ◌+◌, ◌%◌, ◌^◌, Bool, true, false, List, ◌==◌, Option, Some, None}
 use Rattle.word.specs.Bits.{wrap}
-use Rattle.sysreg.specs.Regs.{level_of, sys_at}
+use Rattle.sysreg.specs.Regs.{index_of, sys_at}
 use Rattle.sysreg.specs.Write.{bank}
-use Rattle.sysreg.specs.declared.{regs.El.El, regs.SysReg.SysReg, regs.SysRegs.SysRegs}
-use Rattle.sysreg.specs.declared.regs.SysReg.TheVariants.{Mair, Vbar, Elr, Spsr, Esr, Far, Vpidr, Vmpidr, Par}
+use Rattle.sysreg.specs.declared.{regs.Regime.Regime, regs.Register.Register, regs.SysRegs.SysRegs}
+use Rattle.sysreg.specs.declared.regs.Register.TheVariants.{Vbar, Elr, Spsr, Esr, Far}
 use Rattle.exception.specs.declared.{kind.Exception.Exception, flags.Flags.Flags, route.Origin.Origin, route.Routed.Routed}
 use Rattle.exception.specs.Pstate.{daif_all, flags, spsr_of}
 use Rattle.exception.specs.Syndrome.{syndrome_of}
@@ -16,20 +16,20 @@ use Rattle.exception.specs.Route.{routed_to}
 abbrev pub vect_offset : ℕ → ℕ → Bool → ℕ
 vect_offset from to sp = if from == to then if sp then 0x200 else 0x000 else 0x400
 
-abbrev pub same_el : El → El → Bool
-same_el a b = level_of a == level_of b
+abbrev pub same_el : Regime → Regime → Bool
+same_el a b = index_of a == index_of b
 
 -- v at the target level, and at the others what they hold
-abbrev pub at_target : El → ℕ → List ℕ → List ℕ
+abbrev pub at_target : Regime → ℕ → List ℕ → List ℕ
 at_target target v l = bank (λ el held. if same_el el target then v else held) l
 
 -- where a value is given
-abbrev pub updated : El → Option ℕ → List ℕ → List ℕ
+abbrev pub updated : Regime → Option ℕ → List ℕ → List ℕ
 updated target (Some v) l = at_target target v l
 updated target None l = l
 
 -- SPSR and ELR of the target level, its ESR and FAR where they are given, and no other register
-unfoldable pub entered_sys : SysRegs → El → Option ℕ → Option ℕ → ℕ → ℕ → SysRegs
+unfoldable pub entered_sys : SysRegs → Regime → Option ℕ → Option ℕ → ℕ → ℕ → SysRegs
 entered_sys s target esr far spsr ret =
     record s {
       elr = at_target target ret s.elr;
@@ -44,28 +44,20 @@ given (Some v) same held = if same then v else held
 given None same held = held
 
 -- register by register: what one holds after an entry, from what it held
-abbrev pub register_after : El → Option ℕ → Option ℕ → ℕ → ℕ → SysReg → ℕ → ℕ
+abbrev pub register_after : Regime → Option ℕ → Option ℕ → ℕ → ℕ → Register → ℕ → ℕ
 register_after target esr far spsr ret (Spsr el) held = if same_el el target then spsr else held
 register_after target esr far spsr ret (Elr el) held = if same_el el target then ret else held
 register_after target esr far spsr ret (Esr el) held = given esr (same_el el target) held
 register_after target esr far spsr ret (Far el) held = given far (same_el el target) held
-register_after target esr far spsr ret (Mair el) held = held
-register_after target esr far spsr ret (Vbar el) held = held
-register_after target esr far spsr ret Vpidr held = held
-register_after target esr far spsr ret Vmpidr held = held
-register_after target esr far spsr ret Par held = held
+register_after target esr far spsr ret _ held = held
 
 -- the registers that an entry may change: SPSR, ELR, ESR and FAR of its target
-abbrev pub of_entry : El → SysReg → Bool
+abbrev pub of_entry : Regime → Register → Bool
 of_entry target (Spsr el) = same_el el target
 of_entry target (Elr el) = same_el el target
 of_entry target (Esr el) = same_el el target
 of_entry target (Far el) = same_el el target
-of_entry target (Mair el) = false
-of_entry target (Vbar el) = false
-of_entry target Vpidr = false
-of_entry target Vmpidr = false
-of_entry target Par = false
+of_entry target _ = false
 
 -- PSTATE.SP = '1', PSTATE.<D,A,I,F> = '1111'; N, Z, C, V stay
 abbrev pub entry_flags : Flags → Flags
@@ -80,12 +72,12 @@ pub record Entered : Type 0 where
 
 -- An entry of any kind, which is added to the offset (0x000 for a synchronous exception, 0x080 for an IRQ, 0x100 for an FIQ): PSTATE.EL = target_el,
 -- and the branch to VBAR_ELx plus the offset. ESR and FAR are written, or kept as an interrupt keeps both.
-unfoldable pub enter_of : ℕ → Flags → SysRegs → El → ℕ → Option ℕ → Option ℕ → ℕ → Entered
+unfoldable pub enter_of : ℕ → Flags → SysRegs → Regime → ℕ → Option ℕ → Option ℕ → ℕ → Entered
 enter_of level f s target kind esr far ret =
     record {
-      level = level_of target;
+      level = index_of target;
       flags = entry_flags f;
-      pc = wrap (sys_at s (Vbar target) + vect_offset level (level_of target) f.spsel + kind);
+      pc = wrap (sys_at s (Vbar target) + vect_offset level (index_of target) f.spsel + kind);
       sys = entered_sys s target esr far (spsr_of level f) ret;
     }
 
@@ -95,7 +87,7 @@ origin_of level pc scr hcr = record { level = level % 2 ^ 2; scr_el3 = scr; hcr_
 
 -- what a routed exception reports
 abbrev pub report_of : ℕ → ℕ → Routed → ℕ × Option ℕ
-report_of level pc r = syndrome_of r.exception level (level_of r.target) pc
+report_of level pc r = syndrome_of r.exception level (index_of r.target) pc
 
 -- it is taken, as its report has it
 abbrev pub take_routed : ℕ → Flags → ℕ → SysRegs → Routed → Entered
@@ -105,7 +97,7 @@ unfoldable pub take_sync : ℕ → Flags → ℕ → ℕ → ℕ → SysRegs →
 take_sync level f pc scr hcr s e = take_routed (level % 2 ^ 2) f pc s (routed_to (origin_of level pc scr hcr) e)
 
 -- a fact of every synchronous exception: where it is taken to, ESR and FAR, SPSR and the return address, and the registers before and after
-abbrev pub EachEntry : (El → ℕ → Option ℕ → ℕ → ℕ → SysRegs → SysRegs → Type 0) → Type 0
+abbrev pub EachEntry : (Regime → ℕ → Option ℕ → ℕ → ℕ → SysRegs → SysRegs → Type 0) → Type 0
 EachEntry P =
     (level pc scr hcr : ℕ) (f : Flags) (s : SysRegs) (e : Exception)
     → let r = routed_to (origin_of level pc scr hcr) e in

@@ -2,8 +2,9 @@
 -- not at hand. A7, D2 and the like are rows of docs/DIFFERENCES.md.
 use Rattle.std.specs.Prelude.{if◌then◌else◌, ℕ, ◌+◌, Bool, not, ◌&&◌, ◌||◌, ◌==◌}
 use Rattle.word.specs.Bits.{bit_on, bit0, wrap}
-use Rattle.sysreg.specs.declared.regs.El.{El}
-use Rattle.sysreg.specs.declared.regs.El.TheVariants.{El1, El2, El3}
+use Rattle.sysreg.specs.Regs.{regime_of}
+use Rattle.sysreg.specs.declared.regs.Regime.{Regime}
+use Rattle.sysreg.specs.declared.regs.Regime.TheVariants.{El2, El3}
 use Rattle.exception.specs.declared.{kind.Exception.Exception, route.Origin.Origin, route.Routed.Routed}
 use Rattle.exception.specs.declared.kind.Exception.TheVariants.{Undefined, Svc, Hvc, Smc, Brk, DataAbort, InsnAbort, PcAlignment}
 
@@ -27,21 +28,17 @@ tge o = bit_on o.hcr_el2 27
 abbrev pub is_secure : Origin → Bool
 is_secure o = o.level == 3 || not (ns o)
 
--- the level itself, and EL1 for EL0
-abbrev pub el_of : ℕ → El
-el_of level = if level == 2 then El2 else if level == 3 then El3 else El1
-
--- TGE takes the exceptions of Non-secure EL0 to EL2. M18: the manual has no Non-secure EL1 while TGE is set; where a level is set so
+-- The level itself, and EL1 for EL0. TGE takes the exceptions of Non-secure EL0 to EL2. M18: the manual has no Non-secure EL1 while TGE is set; where a level is set so
 -- here, its exceptions stay at EL1.
 abbrev pub route_to_el2 : Origin → Bool
 route_to_el2 o = o.level == 0 && (not (is_secure o) && tge o)
 
 -- D2: SCR_EL3.EA takes no external abort to EL3. O11: an external abort is synchronous, a store's too.
-abbrev pub default_target : Origin → El
-default_target o = if route_to_el2 o then El2 else el_of o.level
+abbrev pub default_target : Origin → Regime
+default_target o = if route_to_el2 o then El2 else regime_of o.level
 
 -- HVC goes to EL2, and at EL3 to itself
-abbrev pub call_target : ℕ → El
+abbrev pub call_target : ℕ → Regime
 call_target level = if level == 3 then El3 else El2
 
 -- HVC is UNDEFINED where HCE is clear, and at Secure EL1. A16: not at EL0, where the manual has it so.
@@ -68,7 +65,7 @@ generated o (InsnAbort a) = InsnAbort a
 generated o PcAlignment = PcAlignment
 
 -- target_el
-abbrev pub target_el : Origin → Exception → El
+abbrev pub target_el : Origin → Exception → Regime
 target_el o (Hvc imm) = call_target o.level
 target_el o (Smc imm) = if smc_trapped o then El2 else El3
 target_el o Undefined = default_target o

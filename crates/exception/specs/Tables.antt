@@ -2,8 +2,8 @@
 -- VBAR_ELx are 0x10000, 0x20000 and 0x30000.
 use Rattle.std.specs.Prelude.{◌≡◌, ℕ, ◌+◌, Bool, true, false, List, [], ◌∷◌, Option, Some, None}
 use Rattle.fault.specs.First.{first}
-use Rattle.sysreg.specs.declared.{regs.El.El, regs.SysRegs.SysRegs}
-use Rattle.sysreg.specs.declared.regs.El.TheVariants.{El1, El2, El3}
+use Rattle.sysreg.specs.declared.{regs.Regime.Regime, regs.SysRegs.SysRegs}
+use Rattle.sysreg.specs.declared.regs.Regime.TheVariants.{El1, El2, El3}
 use Rattle.exception.specs.declared.{kind.Exception.Exception, flags.Flags.Flags}
 use Rattle.exception.specs.declared.kind.Exception.TheVariants.{Undefined, Svc, Hvc, Smc, Brk, PcAlignment}
 use Rattle.exception.specs.Abort.{data_abort_at, insn_abort_at}
@@ -80,7 +80,7 @@ pub record Reports (pc addr : ℕ) : Type 0 where
 -- WHERE IT CONTINUES
 
 -- the PC after an entry of each kind: synchronous, IRQ, FIQ and SError
-abbrev vectors : ℕ → Bool → El → List ℕ
+abbrev vectors : ℕ → Bool → Regime → List ℕ
 vectors level sp target =
     (enter_of level (masked sp) registers target 0x000 None None 0x8000).pc
     ∷ (enter_of level (masked sp) registers target 0x080 None None 0x8000).pc
@@ -112,7 +112,7 @@ entered_flags f = flags f.nzcv 0x3C0 true
 
 pub record Masked : Type 0 where
   pub synchronous : (level pc scr hcr : ℕ) (f : Flags) (s : SysRegs) (e : Exception) → (take_sync level f pc scr hcr s e).flags ≡ entered_flags f
-  pub any_kind : (level kind ret : ℕ) (f : Flags) (s : SysRegs) (target : El) (esr far : Option ℕ)
+  pub any_kind : (level kind ret : ℕ) (f : Flags) (s : SysRegs) (target : Regime) (esr far : Option ℕ)
       → (enter_of level f s target kind esr far ret).flags ≡ entered_flags f
 
 -- SPSR_ELx of PSTATE by its bits: Z and V, D and I at EL2 with SP_ELx, and N and C, A and F at EL1 with SP_EL0

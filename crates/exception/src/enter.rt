@@ -5,7 +5,7 @@ ghost use Rattle.exception.specs.Entry.{vect_offset, updated, enter_of, take_syn
 use crate::flags::{DAIF_ALL, Flags};
 use crate::kind::Exception;
 use crate::route::Origin;
-use sysreg::regs::{Control, El, SysRegs};
+use sysreg::regs::{Control, Regime, SysRegs};
 
 /// The offset of synchronous exceptions within each group of four vectors (DDI 0487, D1.10.2).
 pub const VECTOR_SYNC: u64 = 0x000;
@@ -24,7 +24,7 @@ pub fn vector_group(from: u8, to: u8, spsel: bool) -> u64
 // The target level's register, where a value is given.
 #[inline(always)]
 #[tactic(auto, using(sysreg::proofs::Stores::four))]
-fn update(bank: &mut [u64; 4], target: El, value: Option<u64>)
+fn update(bank: &mut [u64; 4], target: Regime, value: Option<u64>)
     ensures { bank.new ≡ updated target value bank.old }
 {
     if let Some(value) = value {
@@ -41,7 +41,7 @@ pub fn enter(
     flags: &mut Flags,
     pc: &mut u64,
     sys: &mut SysRegs,
-    target: El,
+    target: Regime,
     kind: u64,
     esr: Option<u64>,
     far: Option<u64>,

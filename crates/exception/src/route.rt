@@ -4,19 +4,7 @@ ghost use Rattle.exception.specs.Route.{is_secure, default_target, hvc_undefined
 ghost use Rattle.exception.specs.Route.{routed_to};
 
 use crate::kind::Exception;
-use sysreg::regs::El;
-
-/// `SCR_EL3` bits that routing consults.
-pub const SCR_NS: u64 = 1 << 0;
-
-pub const SCR_SMD: u64 = 1 << 7;
-
-pub const SCR_HCE: u64 = 1 << 8;
-
-/// `HCR_EL2` bits that routing consults.
-pub const HCR_TSC: u64 = 1 << 19;
-
-pub const HCR_TGE: u64 = 1 << 27;
+use sysreg::regs::{HCR_TGE, HCR_TSC, Regime, SCR_HCE, SCR_NS, SCR_SMD};
 
 /// Where an exception was raised: what routing reads.
 #[derive(Clone, Copy)]
@@ -31,7 +19,7 @@ pub struct Origin {
 #[derive(Clone, Copy)]
 pub struct Routed {
     pub exception: Exception,
-    pub target: El,
+    pub target: Regime,
     pub ret: u64,
 }
 
@@ -44,15 +32,13 @@ impl Origin {
 
     // The level itself, EL1 for EL0; HCR_EL2.TGE takes the exceptions of Non-secure EL0 to EL2.
     #[tactic(auto, using(crate::proofs::Words::control_bits))]
-    fn default_target(self) -> El
+    fn default_target(self) -> Regime
         ensures { result ≡ default_target self }
     {
         let tge = self.hcr_el2 & HCR_TGE != 0;
         match self.level {
-            0 if tge && !self.is_secure() => El::El2,
-            2 => El::El2,
-            3 => El::El3,
-            _ => El::El1,
+            0 if tge && !self.is_secure() => Regime::El2,
+            level => Regime::of_level(level),
         }
     }
 
@@ -93,11 +79,11 @@ impl Origin {
         let (exception, target, ret) = match e {
             Exception::Svc(_) => (e, default, next),
             Exception::Hvc(_) if self.hvc_undefined() => undefined,
-            Exception::Hvc(_) if self.level == 3 => (e, El::El3, next),
-            Exception::Hvc(_) => (e, El::El2, next),
+            Exception::Hvc(_) if self.level == 3 => (e, Regime::El3, next),
+            Exception::Hvc(_) => (e, Regime::El2, next),
             Exception::Smc(_) if self.smc_undefined() => undefined,
-            Exception::Smc(_) if self.smc_trapped() => (e, El::El2, pc),
-            Exception::Smc(_) => (e, El::El3, next),
+            Exception::Smc(_) if self.smc_trapped() => (e, Regime::El2, pc),
+            Exception::Smc(_) => (e, Regime::El3, next),
             _ => (e, default, pc),
         };
         Routed {

@@ -3,7 +3,7 @@ ghost use Rattle.std.specs.Prelude.{◌≡◌, ℕ, ◌+◌, ◌%◌, ◌^◌, �
 ghost use Rattle.word.specs.Bits.{flag, wrap};
 ghost use Rattle.word.specs.Places.{bit};
 ghost use Rattle.sysreg.specs.Regs.{sys_at};
-ghost use Rattle.sysreg.specs.declared.regs.SysReg.{SysReg};
+ghost use Rattle.sysreg.specs.declared.regs.Register.{Register};
 ghost use Rattle.sysreg.specs.declared.regs.SysRegs.{SysRegs};
 ghost use Rattle.fault.specs.First.{first};
 ghost use Rattle.exception.specs.Pstate.{daif_all, flags, fresh_flags, psr, OwnBits, spsr_of};
@@ -21,9 +21,9 @@ ghost use Rattle.exception.specs.declared.route.Origin.{Origin};
 // as the entry has them, every other register as it was, and never down. It rules out an entry that writes the
 // registers of the level that it comes from.
 pub fn effect_of_entry()
-    ensures each_register { EachEntry (λ target esr far spsr ret before after. (q : SysReg)
+    ensures each_register { EachEntry (λ target esr far spsr ret before after. (q : Register)
         → sys_at after q ≡ register_after target (Some esr) far spsr ret q (sys_at before q)) }
-    ensures other_registers { EachEntry (λ target esr far spsr ret before after. (q : SysReg)
+    ensures other_registers { EachEntry (λ target esr far spsr ret before after. (q : Register)
         → of_entry target q ≡ false → sys_at after q ≡ sys_at before q) }
     ensures target_level { (level pc scr hcr : ℕ) (f : Flags) (s : SysRegs) (e : Exception)
         → (1 ≤ (take_sync level f pc scr hcr s e).level) × ((take_sync level f pc scr hcr s e).level ≤ 3) }

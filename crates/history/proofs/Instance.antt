@@ -1,19 +1,18 @@
 -- The real registers and walk keep the laws.
 use Rattle.std.specs.Prelude.{◌≡◌, refl, ℕ, ◌+◌, ◌*◌, ◌/◌, ◌%◌}
 use Rattle.std.proofs.Common.{arith}
-use Rattle.sysreg.specs.Regs.{fresh_control}
+use Rattle.sysreg.specs.Regs.{fresh_control, regime_of}
 use Rattle.sysreg.specs.Shape.{asid_base, asid_of}
 use Rattle.sysreg.specs.Shape.{SameShape}
 use Rattle.sysreg.proofs.ShapeLaws.{shape-agrees}
 use Rattle.sysreg.specs.declared.regs.Control.{Control}
-use Rattle.sysreg.specs.declared.regs.El.TheVariants as El
-use Rattle.walk.specs.Regime.{regime_of, own_level, bank_of, stage1_on}
+use Rattle.sysreg.specs.declared.regs.Regime.TheVariants.{El1, El2, El3}
+use Rattle.walk.specs.Regime.{bank_of, stage1_on}
 use Rattle.walk.proofs.TagLaws.{untagged-page, untagged-offset}
 use Rattle.walk.proofs.WalkBounds.{leaf-bounds}
 use Rattle.walk.specs.PageLaws.{leaf_at}
 use Rattle.walk.proofs.PageLaws.{leaf-of-page}
-use Rattle.walk.specs.declared.regime.Regime.{Regime}
-use Rattle.walk.specs.declared.regime.Regime.TheVariants.{El1, El2, El3}
+use Rattle.sysreg.specs.declared.regs.Regime.{Regime}
 use Rattle.tlb.specs.Translate as Translate
 use Rattle.tlb.specs.declared.access.Kind.{Kind}
 use Rattle.history.specs.World.{Laws, Plain, access_of}
@@ -25,9 +24,9 @@ pub access-is : (c : Plain real) (m : Ram) (k : Kind) (va : ℕ) →
 access-is c m k va = refl
 
 shape_on : (R S : Control) → SameShape R S → (r : Regime) → stage1_on (bank_of R r) r ≡ stage1_on (bank_of S r) r
-shape_on R S h El1 = rw (h.sctlr El.El1, h.scr, h.hcr)
-shape_on R S h El2 = rw (h.sctlr El.El2)
-shape_on R S h El3 = rw (h.sctlr El.El3)
+shape_on R S h El1 = rw (h.sctlr El1, h.scr, h.hcr)
+shape_on R S h El2 = rw (h.sctlr El2)
+shape_on R S h El3 = rw (h.sctlr El3)
 
 same-page : (x v : ℕ) → x / 4096 ≡ (x / 4096 * 4096 + v % 4096) / 4096
 same-page x v = omega arith
@@ -36,7 +35,7 @@ pub real-laws : Laws real
 real-laws =
     record {
       shape_on = λ R S e r. shape_on R S (shape-agrees R S e) r;
-      shape-untag = λ R S e r va. rw ((shape-agrees R S e).tcr (own_level r));
+      shape-untag = λ R S e r va. rw ((shape-agrees R S e).tcr r);
       untag-page = λ R r va vb e. untagged-page (bank_of R r).tcr r va vb e;
       untag-offset = λ R r va. untagged-offset (bank_of R r).tcr r va;
       leaf-level = λ R m r va ℓ e. (leaf-bounds (bank_of R r) r va (memory_of m) ℓ e).level-high;

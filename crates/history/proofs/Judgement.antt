@@ -4,7 +4,8 @@ use Rattle.std.proofs.Common.{sym, ap, subst, ◌∙◌, inl, inr, arith}
 use Rattle.std.proofs.lemmas.Bool.{false≢true}
 use Rattle.fault.specs.First.{first}
 use Rattle.fault.specs.declared.Fault.{Fault}
-use Rattle.walk.specs.Regime.{single_priv, wxn_of, bank_of}
+use Rattle.walk.specs.Regime.{wxn_of, bank_of}
+use Rattle.sysreg.specs.Regs.{single_priv}
 use Rattle.walk.specs.Table.{Fault as WalkFault, address_size, translation, access_flag, external_abort, status_of, Translation, Result, mapped, faults, table_walk}
 use Rattle.walk.specs.Permission.{allowed}
 use Rattle.walk.specs.Permission.{kind_bit, first_bit}
@@ -12,7 +13,8 @@ use Rattle.walk.proofs.PermissionLaws.{permission-bit}
 use Rattle.walk.specs.Walk.{leaf_of, walked_of, walk_of}
 use Rattle.walk.specs.WalkBounds.{Levelled, Found, Sound}
 use Rattle.walk.proofs.WalkBounds.{table-walk-sound}
-use Rattle.walk.specs.declared.{regime.Regime.Regime, regime.Bank.Bank, level.Leaf.Leaf}
+use Rattle.walk.specs.declared.{regime.Bank.Bank, level.Leaf.Leaf}
+use Rattle.sysreg.specs.declared.regs.Regime.{Regime}
 use Rattle.tlb.specs.Lists.{Each}
 use Rattle.tlb.specs.Model.{need}
 use Rattle.tlb.specs.Asks.{Ask, kind_of, address_of}

@@ -1,7 +1,7 @@
 -- A page is settled where the premise holds at one step after the other.
 use Rattle.std.specs.Prelude.{List, [], ◌∷◌, ◌++◌, ℕ}
 use Rattle.std.proofs.Common.{subst}
-use Rattle.walk.specs.declared.{regime.Regime.Regime}
+use Rattle.sysreg.specs.declared.regs.Regime.{Regime}
 use Rattle.history.specs.World.{World, Plain}
 use Rattle.history.specs.History.{Step, Event, steps, receives, after_event, plain_run, drops_run, Settled}
 use Rattle.history.specs.StepByStep.{HoldsAt, HoldsFrom}

@@ -3,8 +3,9 @@
 use Rattle.std.specs.Prelude.{if◌then◌else◌, ◌≡◌, Bool, true, false, not, ◌&&◌, List, [], ◌∷◌, ◌⊎◌, ℕ, ◌*◌, ◌/◌, ◌%◌, ◌==◌, ltb, Ok}
 use Rattle.std.proofs.Math.Path.{refl}
 use Rattle.std.proofs.Common.{sym, ap, subst, ◌∙◌, inl, inr, eqb-true}
-use Rattle.walk.specs.Regime.{regime_of}
-use Rattle.walk.specs.declared.{regime.Regime.Regime, level.Leaf.Leaf}
+use Rattle.sysreg.specs.Regs.{regime_of}
+use Rattle.walk.specs.declared.{level.Leaf.Leaf}
+use Rattle.sysreg.specs.declared.regs.Regime.{Regime}
 use Rattle.tlb.specs.Access.{flat_answer}
 use Rattle.tlb.specs.Model.{Slot, empty, holds, Line, Known, Counters, Model, empty_model, belongs_to, covers as coversLine, uncovered, invalidate, retag}
 use Rattle.tlb.specs.Model.{counting, keep, keep_hint, keep_fetch, as_user, need, reach_of}

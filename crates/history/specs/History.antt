@@ -1,7 +1,8 @@
 -- The list (docs/SCOPE.md), the premise of faithfulness, and faithfulness itself. With World.antt this is all that a reader has
 -- to believe; every term is read from the events, never from the cache.
 use Rattle.std.specs.Prelude.{if◌then◌else◌, ◌≡◌, Bool, true, false, List, [], ◌∷◌, ◌++◌, ◌⊎◌, ℕ, ◌≤◌, Ok}
-use Rattle.walk.specs.declared.{regime.Regime.Regime, level.Leaf.Leaf}
+use Rattle.walk.specs.declared.{level.Leaf.Leaf}
+use Rattle.sysreg.specs.declared.regs.Regime.{Regime}
 use Rattle.tlb.specs.Lists.{Each}
 use Rattle.tlb.specs.Tlb.{fresh, invalidate_of}
 use Rattle.tlb.specs.Asks as Asks

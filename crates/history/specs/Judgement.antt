@@ -2,11 +2,13 @@
 -- of its page found; and the statuses that there are. No premise: this holds after every history.
 use Rattle.std.specs.Prelude.{if◌then◌else◌, ◌≡◌, Bool, true, false, not, List, ◌⊎◌, ℕ, ◌+◌, ◌*◌, ◌/◌, ◌%◌, ◌≤◌, Ok, Err}
 use Rattle.fault.specs.First.{first}
-use Rattle.walk.specs.Regime.{single_priv, wxn_of, bank_of}
+use Rattle.walk.specs.Regime.{wxn_of, bank_of}
+use Rattle.sysreg.specs.Regs.{single_priv}
 use Rattle.walk.specs.Table.{Fault as WalkFault, status_of, Translation, mapped, faults, table_walk}
 use Rattle.walk.specs.Permission.{Access, reading, writing, fetching, allowed}
 use Rattle.walk.specs.Walk.{leaf_of}
-use Rattle.walk.specs.declared.{regime.Regime.Regime, regime.Bank.Bank}
+use Rattle.walk.specs.declared.{regime.Bank.Bank}
+use Rattle.sysreg.specs.declared.regs.Regime.{Regime}
 use Rattle.sysreg.specs.declared.regs.Control.{Control}
 use Rattle.tlb.specs.Access.{flat_answer}
 use Rattle.tlb.specs.Lists.{Each}

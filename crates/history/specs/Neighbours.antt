@@ -2,7 +2,8 @@
 -- one answer.
 use Rattle.std.specs.Prelude.{if◌then◌else◌, ◌≡◌, true, false, ℕ, ◌==◌, Ok}
 use mathlib.Core.List.{List, [], ◌∷◌, ◌++◌}
-use Rattle.walk.specs.declared.{regime.Regime.Regime, level.Leaf.Leaf}
+use Rattle.walk.specs.declared.{level.Leaf.Leaf}
+use Rattle.sysreg.specs.declared.regs.Regime.{Regime}
 use Rattle.tlb.specs.Lists.{Each}
 use Rattle.tlb.specs.Asks.{Ask, address_of}
 use Rattle.tlb.specs.declared.Inval.{Inval}

@@ -1,6 +1,7 @@
 -- The premise step by step: what is to be shown of a list that is given.
 use Rattle.std.specs.Prelude.{◌≡◌, true, false, List, [], ◌∷◌, ◌⊎◌, ℕ, Ok}
-use Rattle.walk.specs.declared.{regime.Regime.Regime, level.Leaf.Leaf}
+use Rattle.walk.specs.declared.{level.Leaf.Leaf}
+use Rattle.sysreg.specs.declared.regs.Regime.{Regime}
 use Rattle.tlb.specs.Lists.{Each}
 use Rattle.tlb.specs.declared.Inval.{Inval}
 use Rattle.history.specs.World.{World, LeavesEqual, covers, Plain, page_walk}

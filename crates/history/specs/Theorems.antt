@@ -8,7 +8,8 @@ use Rattle.sysreg.specs.Shape.{asid_of}
 use Rattle.walk.specs.Fetches.{fetches_of}
 use Rattle.walk.specs.Regime.{bank_of}
 use Rattle.walk.specs.Table.{Translation, mapped, table_walk}
-use Rattle.walk.specs.declared.{regime.Regime.Regime, level.Leaf.Leaf}
+use Rattle.walk.specs.declared.{level.Leaf.Leaf}
+use Rattle.sysreg.specs.declared.regs.Regime.{Regime}
 use Rattle.tlb.specs.Asks.{Ask, address_of, Given}
 use Rattle.tlb.specs.Counting.{sums}
 use Rattle.tlb.specs.Lists.{Each}

@@ -2,8 +2,9 @@
 -- core without a cache. `span_bits`, `as_user` and `need` are the plain model's: tlb/specs/Model.antt.
 use Rattle.std.specs.Prelude.{if◌then◌else◌, ◌≡◌, Bool, true, not, ◌&&◌, ℕ, ◌+◌, ◌*◌, ◌/◌, ◌%◌, ◌^◌, ◌≤◌, ◌==◌, Ok, Err}
 use Rattle.fault.specs.First.{first}
-use Rattle.walk.specs.Regime.{regime_of}
-use Rattle.walk.specs.declared.{regime.Regime.Regime, level.Leaf.Leaf}
+use Rattle.sysreg.specs.Regs.{regime_of}
+use Rattle.walk.specs.declared.{level.Leaf.Leaf}
+use Rattle.sysreg.specs.declared.regs.Regime.{Regime}
 use Rattle.tlb.specs.Access.{flat_answer}
 use Rattle.tlb.specs.Model.{Access, as_user, need, span_bits}
 use Rattle.tlb.specs.declared.{access.Kind.Kind, access.Privilege.Privilege, Inval.Inval}

@@ -4,7 +4,8 @@ use Rattle.std.proofs.Common.{refl, sym, ap, ◌∙◌, arith, subst}
 use native.Mathlib.Nat.{mod-eq_of_lt}
 use Rattle.word.specs.Bits.{wrap}
 use Rattle.word.specs.Ram.{word_at, within, stored, bytes_in}
-use Rattle.walk.specs.Regime.{regime_of, stage1_on}
+use Rattle.walk.specs.Regime.{stage1_on}
+use Rattle.sysreg.specs.Regs.{regime_of}
 use Rattle.tlb.specs.Answers.{Answer}
 use Rattle.tlb.specs.Translate.{hint_in}
 use Rattle.tlb.specs.declared.access.Kind.TheVariants.{Write}

@@ -1,52 +1,49 @@
 -- The word of each part, by the name of its place.
 use Rattle.std.proofs.Common.{◌≡◌, ℕ, zero, suc, ◌+◌, ◌*◌, ◌<◌, refl, sym, ap, ◌∙◌, arith, lt-ltb}
-use Rattle.sysreg.specs.declared.regs.El.TheVariants.{El1, El2, El3}
-use Rattle.sysreg.specs.declared.regs.ControlReg.TheVariants.{Sctlr, Tcr, Ttbr0, Ttbr1, Scr, Hcr}
-use Rattle.sysreg.specs.declared.regs.SysReg.TheVariants.{Mair, Vbar, Elr, Spsr, Esr, Far, Vpidr, Vmpidr, Par}
+use Rattle.sysreg.specs.declared.regs.Regime.TheVariants.{El1, El2, El3}
+use Rattle.sysreg.specs.declared.regs.Register.TheVariants.{Sctlr, Tcr, Ttbr0, Ttbr1, Scr, Hcr}
+use Rattle.sysreg.specs.declared.regs.Register.TheVariants.{Mair, Vbar, Elr, Spsr, Esr, Far, Vpidr, Vmpidr, Par}
 use Rattle.cpu.specs.Core.{reg_of}
 use Rattle.saved.specs.Places.{HINTS, HINT-PA, ENTRIES, ENTRY-GENERATION, ENTRY-ATTRIBUTES, ENTRY-PA}
 use Rattle.saved.specs.WordsOf.{word_of}
-use Rattle.saved.specs.NamedPlaces.{control_named, sys_named, general_named, parts_named, hints_named, entries_named, tallies_named}
+use Rattle.saved.specs.NamedPlaces.{registers_named, general_named, parts_named, hints_named, entries_named, tallies_named}
 use Rattle.saved.proofs.Saving.{general_word, hint_words, entry_words}
 
-pub controls : control_named
+pub registers : registers_named
 unfolding word_of
-controls c (Sctlr El1) = refl
-controls c (Sctlr El2) = refl
-controls c (Sctlr El3) = refl
-controls c (Tcr El1) = refl
-controls c (Tcr El2) = refl
-controls c (Tcr El3) = refl
-controls c (Ttbr0 El1) = refl
-controls c (Ttbr0 El2) = refl
-controls c (Ttbr0 El3) = refl
-controls c Ttbr1 = refl
-controls c Scr = refl
-controls c Hcr = refl
-
-pub systems : sys_named
-unfolding word_of
-systems c (Mair El1) = refl
-systems c (Mair El2) = refl
-systems c (Mair El3) = refl
-systems c (Vbar El1) = refl
-systems c (Vbar El2) = refl
-systems c (Vbar El3) = refl
-systems c (Elr El1) = refl
-systems c (Elr El2) = refl
-systems c (Elr El3) = refl
-systems c (Spsr El1) = refl
-systems c (Spsr El2) = refl
-systems c (Spsr El3) = refl
-systems c (Esr El1) = refl
-systems c (Esr El2) = refl
-systems c (Esr El3) = refl
-systems c (Far El1) = refl
-systems c (Far El2) = refl
-systems c (Far El3) = refl
-systems c Vpidr = refl
-systems c Vmpidr = refl
-systems c Par = refl
+registers c (Sctlr El1) = refl
+registers c (Sctlr El2) = refl
+registers c (Sctlr El3) = refl
+registers c (Tcr El1) = refl
+registers c (Tcr El2) = refl
+registers c (Tcr El3) = refl
+registers c (Ttbr0 El1) = refl
+registers c (Ttbr0 El2) = refl
+registers c (Ttbr0 El3) = refl
+registers c Ttbr1 = refl
+registers c Scr = refl
+registers c Hcr = refl
+registers c (Mair El1) = refl
+registers c (Mair El2) = refl
+registers c (Mair El3) = refl
+registers c (Vbar El1) = refl
+registers c (Vbar El2) = refl
+registers c (Vbar El3) = refl
+registers c (Elr El1) = refl
+registers c (Elr El2) = refl
+registers c (Elr El3) = refl
+registers c (Spsr El1) = refl
+registers c (Spsr El2) = refl
+registers c (Spsr El3) = refl
+registers c (Esr El1) = refl
+registers c (Esr El2) = refl
+registers c (Esr El3) = refl
+registers c (Far El1) = refl
+registers c (Far El2) = refl
+registers c (Far El3) = refl
+registers c Vpidr = refl
+registers c Vmpidr = refl
+registers c Par = refl
 
 pub generals : general_named
 unfolding reg_of

@@ -1,10 +1,10 @@
 -- The word of each part of a core, by the name of its place.
 use Rattle.std.specs.Prelude.{◌≡◌, ℕ, ◌+◌, ◌-◌, ◌*◌, ◌<◌}
 use Rattle.word.specs.Bits.{flag}
-use Rattle.sysreg.specs.Regs.{level_of, control_at, sys_at}
-use Rattle.sysreg.specs.declared.{regs.El.El, regs.ControlReg.ControlReg, regs.SysReg.SysReg}
-use Rattle.sysreg.specs.declared.regs.ControlReg.TheVariants.{Sctlr, Tcr, Ttbr0, Ttbr1, Scr, Hcr}
-use Rattle.sysreg.specs.declared.regs.SysReg.TheVariants.{Mair, Vbar, Elr, Spsr, Esr, Far, Vpidr, Vmpidr, Par}
+use Rattle.sysreg.specs.Regs.{index_of, reg_at}
+use Rattle.sysreg.specs.declared.{regs.Regime.Regime, regs.Register.Register}
+use Rattle.sysreg.specs.declared.regs.Register.TheVariants.{Sctlr, Tcr, Ttbr0, Ttbr1, Scr, Hcr}
+use Rattle.sysreg.specs.declared.regs.Register.TheVariants.{Mair, Vbar, Elr, Spsr, Esr, Far, Vpidr, Vmpidr, Par}
 use Rattle.tlb.specs.Tlb.{hint_at, entry_at}
 use Rattle.tlb.specs.Count.{tally_at}
 use Rattle.cpu.specs.Core.{reg_of}
@@ -16,27 +16,25 @@ use Rattle.saved.specs.Places.{LEVEL-HITS, LEVEL-WALKS}
 use Rattle.saved.specs.WordsOf.{attributes, fetch_known, fetch_or_zeros, word_of}
 
 -- of three words, by the level that the register belongs to
-abbrev pub by_level : ℕ → El → ℕ
-by_level place el = place + (level_of el - 1)
+abbrev pub by_level : ℕ → Regime → ℕ
+by_level place el = place + (index_of el - 1)
 
-abbrev pub control_place : ControlReg → ℕ
-control_place (Sctlr el) = by_level SCTLR el
-control_place (Tcr el) = by_level TCR el
-control_place (Ttbr0 el) = by_level TTBR0 el
-control_place Ttbr1 = TTBR1-EL1
-control_place Scr = SCR-EL3
-control_place Hcr = HCR-EL2
-
-abbrev pub sys_place : SysReg → ℕ
-sys_place (Mair el) = by_level MAIR el
-sys_place (Vbar el) = by_level VBAR el
-sys_place (Elr el) = by_level ELR el
-sys_place (Spsr el) = by_level SPSR el
-sys_place (Esr el) = by_level ESR el
-sys_place (Far el) = by_level FAR el
-sys_place Vpidr = VPIDR-EL2
-sys_place Vmpidr = VMPIDR-EL2
-sys_place Par = PAR-EL1
+abbrev pub register_place : Register → ℕ
+register_place (Sctlr el) = by_level SCTLR el
+register_place (Tcr el) = by_level TCR el
+register_place (Ttbr0 el) = by_level TTBR0 el
+register_place Ttbr1 = TTBR1-EL1
+register_place Scr = SCR-EL3
+register_place Hcr = HCR-EL2
+register_place (Mair el) = by_level MAIR el
+register_place (Vbar el) = by_level VBAR el
+register_place (Elr el) = by_level ELR el
+register_place (Spsr el) = by_level SPSR el
+register_place (Esr el) = by_level ESR el
+register_place (Far el) = by_level FAR el
+register_place Vpidr = VPIDR-EL2
+register_place Vmpidr = VMPIDR-EL2
+register_place Par = PAR-EL1
 
 -- the parts that stand alone
 pub record Named (c : Core) : Type 0 where
@@ -74,11 +72,8 @@ pub record TallyNamed (c : Core) (l : ℕ) : Type 0 where
 
 -- THE STATEMENTS
 
-abbrev pub control_named : Type 0
-control_named = (c : Core) (r : ControlReg) → word_of c (control_place r) ≡ control_at c.control r
-
-abbrev pub sys_named : Type 0
-sys_named = (c : Core) (r : SysReg) → word_of c (sys_place r) ≡ sys_at c.sys r
+abbrev pub registers_named : Type 0
+registers_named = (c : Core) (r : Register) → word_of c (register_place r) ≡ reg_at c.control c.sys r
 
 abbrev pub general_named : Type 0
 general_named = (c : Core) (n : ℕ) → n < 31 → word_of c (GENERAL + n) ≡ reg_of c n

@@ -4,7 +4,7 @@ ghost use Rattle.cpu.specs.Core.{fresh_core};
 ghost use Rattle.cpu.specs.declared.Core.{Core};
 ghost use Rattle.saved.specs.CoreOf.{word, core_of};
 ghost use Rattle.saved.specs.Fits.{Fits};
-ghost use Rattle.saved.specs.NamedPlaces.{control_named, sys_named, general_named, parts_named};
+ghost use Rattle.saved.specs.NamedPlaces.{registers_named, general_named, parts_named};
 ghost use Rattle.saved.specs.NamedPlaces.{hints_named, entries_named, tallies_named};
 ghost use Rattle.saved.specs.PartWords.{PendingSaved, PendingRestored, FetchSaved, FetchRestored};
 ghost use Rattle.saved.specs.PartWords.{AttributesSaved, AttributesRestored, LevelRestored};
@@ -30,8 +30,7 @@ pub fn saved_and_restored()
 /// Each part of a core stands at the place that bears its name. It rules out two parts that change places in `save`,
 /// `restore` and their definitions alike.
 pub fn named_places()
-    ensures controls { control_named }
-    ensures systems { sys_named }
+    ensures registers { registers_named }
     ensures generals { general_named }
     ensures parts { parts_named }
     ensures hints { hints_named }

@@ -5,8 +5,8 @@ use Rattle.word.specs.Bits.{bit_on, field}
 use Rattle.word.proofs.BitLaws.{cut_field}
 use Rattle.word.specs.Places.{bits, bit}
 use Rattle.sysreg.specs.declared.regs.Control.{Control}
-use Rattle.sysreg.specs.declared.regs.El.TheVariants.{El1}
-use Rattle.sysreg.specs.declared.regs.ControlReg.TheVariants.{Tcr, Ttbr0, Ttbr1}
+use Rattle.sysreg.specs.declared.regs.Regime.TheVariants.{El1}
+use Rattle.sysreg.specs.declared.regs.Register.TheVariants.{Tcr, Ttbr0, Ttbr1}
 use Rattle.sysreg.specs.Regs.{control_at}
 use Rattle.sysreg.specs.Shape.{asid_base, asid_of}
 

@@ -1,11 +1,11 @@
 -- A control register that counts in the shape: a write of another value changes the shape.
 use Rattle.std.specs.Prelude.{◌≡◌, refl, Bool, true, false, ℕ, Some}
 use Rattle.std.proofs.Common.{◌∙◌}
-use Rattle.sysreg.specs.declared.{regs.Control.Control, regs.SysRegs.SysRegs, regs.ControlReg.ControlReg, regs.SysReg.SysReg}
-use Rattle.sysreg.specs.declared.regs.El.TheVariants.{El1, El2, El3}
-use Rattle.sysreg.specs.declared.regs.ControlReg.TheVariants.{Sctlr, Tcr, Ttbr0, Ttbr1, Scr, Hcr}
-use Rattle.sysreg.specs.declared.regs.Register.TheVariants.{InSys}
-use Rattle.sysreg.specs.Regs.{control_at}
+use Rattle.std.proofs.lemmas.Bool.{false≢true}
+use Rattle.sysreg.specs.declared.{regs.Control.Control, regs.SysRegs.SysRegs, regs.Register.Register}
+use Rattle.sysreg.specs.declared.regs.Regime.TheVariants.{El1, El2, El3}
+use Rattle.sysreg.specs.declared.regs.Register.TheVariants.{Sctlr, Tcr, Ttbr0, Ttbr1, Scr, Hcr}
+use Rattle.sysreg.specs.Regs.{in_control, control_at}
 use Rattle.sysreg.specs.Encoding.{register_at}
 use Rattle.sysreg.specs.Write.{control_with, write_reg}
 use Rattle.sysreg.proofs.WriteLaws.{control-written, write-sys}
@@ -18,20 +18,21 @@ not_so true h = absurd (h refl)
 not_so false h = refl
 
 -- settings of one shape hold the same in the register
-held : (c : Control) (r : ControlReg) (v : ℕ) → (r ≡ Ttbr0 El1 → ⊥) → (r ≡ Ttbr1 → ⊥) → SameShape c (control_with c r v) → control_at c r ≡ v
-held c (Sctlr el) v a b s = s.sctlr el ∙ control-written c (Sctlr el) v
-held c (Tcr el) v a b s = s.tcr el ∙ control-written c (Tcr el) v
-held c (Ttbr0 El1) v a b s = absurd (a refl)
-held c (Ttbr0 El2) v a b s = s.ttbr0-el2 ∙ control-written c (Ttbr0 El2) v
-held c (Ttbr0 El3) v a b s = s.ttbr0-el3 ∙ control-written c (Ttbr0 El3) v
-held c Ttbr1 v a b s = absurd (b refl)
-held c Scr v a b s = s.scr ∙ control-written c Scr v
-held c Hcr v a b s = s.hcr ∙ control-written c Hcr v
+same : (c : Control) (r : Register) (v : ℕ) → in_control r ≡ true → (r ≡ Ttbr0 El1 → ⊥) → (r ≡ Ttbr1 → ⊥) → SameShape c (control_with c r v) → control_at c r ≡ v
+same c (Sctlr el) v i a b s = s.sctlr el ∙ control-written c (Sctlr el) v refl
+same c (Tcr el) v i a b s = s.tcr el ∙ control-written c (Tcr el) v refl
+same c (Ttbr0 El1) v i a b s = absurd (a refl)
+same c (Ttbr0 El2) v i a b s = s.ttbr0-el2 ∙ control-written c (Ttbr0 El2) v refl
+same c (Ttbr0 El3) v i a b s = s.ttbr0-el3 ∙ control-written c (Ttbr0 El3) v refl
+same c Ttbr1 v i a b s = absurd (b refl)
+same c Scr v i a b s = s.scr ∙ control-written c Scr v refl
+same c Hcr v i a b s = s.hcr ∙ control-written c Hcr v refl
+same c r v i a b s = absurd (false≢true i)
 
-pub shape-changed : (c : Control) (r : ControlReg) (v : ℕ) → (r ≡ Ttbr0 El1 → ⊥) → (r ≡ Ttbr1 → ⊥) → (control_at c r ≡ v → ⊥)
+pub shape-changed : (c : Control) (r : Register) (v : ℕ) → in_control r ≡ true → (r ≡ Ttbr0 El1 → ⊥) → (r ≡ Ttbr1 → ⊥) → (control_at c r ≡ v → ⊥)
     → same_shape c (control_with c r v) ≡ false
-shape-changed c r v a b n =
-    not_so (same_shape c (control_with c r v)) (λ e. n (held c r v a b (shape-agrees c (control_with c r v) e)))
+shape-changed c r v i a b n =
+    not_so (same_shape c (control_with c r v)) (λ e. n (same c r v i a b (shape-agrees c (control_with c r v) e)))
 
 -- the two that do not count
 pub keeps-ttbr0 : (c : Control) (v : ℕ) → same_shape c (control_with c (Ttbr0 El1) v) ≡ true
@@ -40,6 +41,6 @@ keeps-ttbr0 c v = shape-kept c (Ttbr0 El1) v refl
 pub keeps-ttbr1 : (c : Control) (v : ℕ) → same_shape c (control_with c Ttbr1 v) ≡ true
 keeps-ttbr1 c v = shape-kept c Ttbr1 v refl
 
-pub keeps-system : (c : Control) (s : SysRegs) (level k v : ℕ) (r : SysReg) → register_at k ≡ Some (InSys r)
+pub keeps-system : (c : Control) (s : SysRegs) (level k v : ℕ) (r : Register) → register_at k ≡ Some r → in_control r ≡ false
     → same_shape c (write_reg c s level k v).control ≡ true
-keeps-system c s level k v r e = rw (write-sys c s level k v r e) (shape-self c)
+keeps-system c s level k v r e i = rw (write-sys c s level k v r e i) (shape-self c)

@@ -5,8 +5,7 @@ use Rattle.std.proofs.lemmas.Bool.{false≢true}
 use Rattle.std.specs.Int.Bits.{bit_or}
 use Rattle.std.proofs.lemmas.Nat.{or_shifted}
 use Rattle.sysreg.specs.declared.{regs.Register.Register}
-use Rattle.sysreg.specs.declared.regs.SysReg.TheVariants.{Par}
-use Rattle.sysreg.specs.declared.regs.Register.TheVariants.{InSys}
+use Rattle.sysreg.specs.declared.regs.Register.TheVariants.{Par}
 use Rattle.sysreg.specs.Encoding.{encode, key_word, key_of, find, banked_at, register_at, each_level, one_level}
 
 -- what stands below the bits of a word is or-ed to it by a sum
@@ -48,7 +47,7 @@ skip p (r ∷ rs) m k a f = go (eqb k (key_of r)) refl (p (key_of r)) refl a (λ
 -- a number of more than 16 bits names nothing
 pub wide_key : (k : ℕ) → 2 ^ 16 ≤ k → register_at k ≡ None
 unfolding register_at banked_at
-wide_key k h = skip (λ n. ltb n (2 ^ 16)) (InSys Par ∷ each_level ++ one_level) [] k refl (le-ltb k (2 ^ 16) h)
+wide_key k h = skip (λ n. ltb n (2 ^ 16)) (Par ∷ each_level ++ one_level) [] k refl (le-ltb k (2 ^ 16) h)
 
 -- what is found has the encoding looked for
 found-key : (l : List Register) (k : ℕ) (r : Register) → find l k ≡ Some r → k ≡ key_of r
@@ -62,4 +61,4 @@ found-key (q ∷ qs) k r e = go (eqb k (key_of q)) refl e (found-key qs k r)
 -- what names a register is its encoding
 pub named-key : (k : ℕ) (r : Register) → register_at k ≡ Some r → k ≡ key_of r
 unfolding register_at banked_at
-named-key k r e = found-key (InSys Par ∷ each_level ++ one_level) k r e
+named-key k r e = found-key (Par ∷ each_level ++ one_level) k r e

@@ -6,8 +6,9 @@ use lib.Bits.{bit_and, and_mask, and_shr, and_mod, and_le_r}
 use lib.Pow.{split, pow_pos}
 use Rattle.std.proofs.Common.{lit≤}
 use Rattle.std.proofs.lemmas.Nat.Bits.{and_high_mask}
-use Rattle.sysreg.specs.declared.regs.SysReg.{SysReg}
-use Rattle.sysreg.specs.declared.regs.SysReg.TheVariants.{Mair, Vbar, Elr, Spsr, Esr, Far, Vpidr, Vmpidr, Par}
+use Rattle.word.specs.Bits.{align_down}
+use Rattle.sysreg.specs.declared.regs.Register.{Register}
+use Rattle.sysreg.specs.declared.regs.Register.TheVariants.{Vbar, Spsr, Esr, Vpidr}
 use Rattle.sysreg.specs.Write.{in_place, spsr_kept, kept}
 
 -- a mask in two parts, from bit k up and below it
@@ -34,21 +35,23 @@ spsr_mask v =
     rw (run v 0xF03F_03DF 28 4 refl, run v 0x3F_03DF 21 1 refl, run v 0x1F_03DF 20 1 refl, run v 0xF_03DF 16 4 refl, run v 0x3DF 6 4 refl, and_mask v 5)
     (simp add_assoc)
 
-pub ruleset masks = (spsr_mask)
+pub vbar_mask : (v : ℕ) → v < 2 ^ 64 → bit_and v 0xFFFF_FFFF_FFFF_F800 ≡ align_down v 11
+vbar_mask v h = and_high_mask 64 11 (lit≤ tt) v h
+
+pub low_mask : (v : ℕ) → bit_and v 0xFFFF_FFFF ≡ v % 2 ^ 32
+low_mask v = and_mask v 32
+
+pub ruleset masks = (spsr_mask, vbar_mask, low_mask)
 
 -- all bits of a value of n bits
 whole : (v n : ℕ) → v < 2 ^ n → bit_and v (2 ^ n - 1) ≡ v
 whole v n h = and_mask v n ∙ mod-eq_of_lt h
 
 -- what a register keeps is a mask of the value
-pub kept-masked : (r : SysReg) (v : ℕ) → v < 2 ^ 64 → kept r v ≡ bit_and v (kept r 0xFFFF_FFFF_FFFF_FFFF)
+pub kept-masked : (r : Register) (v : ℕ) → v < 2 ^ 64 → kept r v ≡ bit_and v (kept r 0xFFFF_FFFF_FFFF_FFFF)
 unfolding spsr_kept
-kept-masked (Vbar el) v h = sym (and_high_mask 64 11 (lit≤ tt) v h)
+kept-masked (Vbar el) v h = sym (vbar_mask v h)
 kept-masked (Spsr el) v h = sym (spsr_mask v)
-kept-masked (Esr el) v h = sym (and_mask v 32)
-kept-masked Vpidr v h = sym (and_mask v 32)
-kept-masked (Mair el) v h = sym (whole v 64 h)
-kept-masked (Elr el) v h = sym (whole v 64 h)
-kept-masked (Far el) v h = sym (whole v 64 h)
-kept-masked Vmpidr v h = sym (whole v 64 h)
-kept-masked Par v h = sym (whole v 64 h)
+kept-masked (Esr el) v h = sym (low_mask v)
+kept-masked Vpidr v h = sym (low_mask v)
+kept-masked r v h = sym (whole v 64 h)

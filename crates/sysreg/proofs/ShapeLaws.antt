@@ -1,36 +1,35 @@
 -- Laws of the shape and of the ASID, for the cache and its history.
-use Rattle.std.specs.Prelude.{if◌then◌else◌, ◌≡◌, refl, Bool, true, false, ◌||◌, List, [], ◌∷◌, ℕ, ◌^◌, ◌<◌, eqb, Some, Option, None, Err}
+use Rattle.std.specs.Prelude.{if◌then◌else◌, ◌≡◌, refl, Bool, true, false, ◌&&◌, ◌||◌, List, [], ◌∷◌, ℕ, ◌^◌, ◌<◌, eqb, Some, Option, None, Err}
 use Rattle.std.proofs.Common.{sym, arith, eqb-true, eq-eqb}
 use Rattle.std.proofs.lemmas.Bool.{false≢true, not-true}
 use Rattle.word.specs.Bits.{field}
 use Rattle.word.proofs.BitLaws.{both}
 use Rattle.sysreg.specs.declared.{regs.Control.Control, regs.SysRegs.SysRegs}
-use Rattle.sysreg.specs.declared.{regs.ControlReg.ControlReg, regs.Register.Register}
-use Rattle.sysreg.specs.declared.regs.El.TheVariants.{El1, El2, El3}
-use Rattle.sysreg.specs.declared.regs.ControlReg.TheVariants.{Sctlr, Tcr, Ttbr0, Ttbr1}
-use Rattle.sysreg.specs.declared.regs.Register.TheVariants.{InControl, InSys}
+use Rattle.sysreg.specs.declared.{regs.Register.Register}
+use Rattle.sysreg.specs.declared.regs.Regime.TheVariants.{El1, El2, El3}
+use Rattle.sysreg.specs.declared.regs.Register.TheVariants.{Sctlr, Tcr, Ttbr0, Ttbr1}
 use Rattle.sysreg.specs.declared.write.WriteError.TheVariants.{Undefined}
-use Rattle.sysreg.specs.Regs.{control_at}
-use Rattle.sysreg.specs.Encoding.{control_key, register_at}
+use Rattle.sysreg.specs.Regs.{in_control, control_at}
+use Rattle.sysreg.specs.Encoding.{key_of, register_at}
 use Rattle.sysreg.proofs.EncodingLaws.{by_level}
-use Rattle.sysreg.specs.Write.{control_with, ended, wrote, write_found, write_reg}
+use Rattle.sysreg.specs.Write.{control_with, sys_with, Done, ended, wrote, write_found, write_reg}
 use Rattle.sysreg.proofs.WriteLaws.{control-after}
 use Rattle.sysreg.specs.Tcr.{«as»}
 use Rattle.sysreg.specs.Shape.{SameShape, shape, member, outside_shape, agree_on, same_shape, asid_base, asid_of}
 
 module _ (a b : Control) where
   -- what a list of registers holds in both
-  abbrev Agree : List ControlReg → Type 0
+  abbrev Agree : List Register → Type 0
   Agree [] = Unit {0}
   Agree (r ∷ rs) = (control_at a r ≡ control_at b r) × Agree rs
 
-  agree : (l : List ControlReg) → agree_on l a b ≡ true → Agree l
+  agree : (l : List Register) → agree_on l a b ≡ true → Agree l
   agree [] e = tt
   agree (r ∷ rs) e =
       let h = both (eqb (control_at a r) (control_at b r)) (agree_on rs a b) e in
       (eqb-true (control_at a r) (control_at b r) h.0, agree rs h.1)
 
-  agreed : (l : List ControlReg) → Agree l → agree_on l a b ≡ true
+  agreed : (l : List Register) → Agree l → agree_on l a b ≡ true
   agreed [] h = refl
   agreed (r ∷ rs) h = rw (eq-eqb (control_at a r) (control_at b r) h.0) (agreed rs h.1)
 
@@ -68,7 +67,7 @@ pub shape-self : (c : Control) → same_shape c c ≡ true
 unfolding same_shape
 shape-self c = all shape
   where
-    all : (l : List ControlReg) → agree_on l c c ≡ true
+    all : (l : List Register) → agree_on l c c ≡ true
     all [] = refl
     all (r ∷ rs) = rw (eq-eqb (control_at c r) (control_at c r) refl) (all rs)
 
@@ -81,20 +80,26 @@ asid-small c = go («as» (control_at c (Tcr El1)))
     go true = omega arith
     go false = omega arith
 
+-- each register of a list is one of `Control`
+abbrev all_control : List Register → Bool
+all_control [] = true
+all_control (r ∷ rs) = in_control r && all_control rs
+
 neither : (x y : Bool) → (x || y) ≡ false → (x ≡ false) × (y ≡ false)
 neither true y e = absurd (false≢true (sym e))
 neither false y e = (refl, e)
 
--- registers that a write does not name hold what they held
-kept_on : (c : Control) (r : ControlReg) (v : ℕ) (l : List ControlReg) → member l r ≡ false → agree_on l c (control_with c r v) ≡ true
-kept_on c r v [] e = refl
-kept_on c r v (q ∷ qs) e =
-    let h = neither (eqb (control_key q) (control_key r)) (member qs r) e in
-    rw (eq-eqb (control_at c q) (control_at (control_with c r v) q) (rw (control-after c r v q, h.0))) (kept_on c r v qs h.1)
+-- registers of `Control` that a write does not name hold what they held
+kept_on : (c : Control) (r : Register) (v : ℕ) (l : List Register) → all_control l ≡ true → member l r ≡ false → agree_on l c (control_with c r v) ≡ true
+kept_on c r v [] i e = refl
+kept_on c r v (q ∷ qs) i e =
+    let j = both (in_control q) (all_control qs) i in
+    let h = neither (eqb (key_of q) (key_of r)) (member qs r) e in
+    rw (eq-eqb (control_at c q) (control_at (control_with c r v) q) (rw (control-after c r v q j.0, h.0))) (kept_on c r v qs j.1 h.1)
 
-pub shape-kept : (c : Control) (r : ControlReg) (v : ℕ) → member shape r ≡ false → same_shape c (control_with c r v) ≡ true
+pub shape-kept : (c : Control) (r : Register) (v : ℕ) → member shape r ≡ false → same_shape c (control_with c r v) ≡ true
 unfolding same_shape
-shape-kept c r v e = kept_on c r v shape e
+shape-kept c r v e = kept_on c r v shape refl e
 
 -- a write outside the shape, refused or not, leaves the shape
 pub write-keeps-shape : (c : Control) (s : SysRegs) (level k v : ℕ) →
@@ -102,10 +107,14 @@ pub write-keeps-shape : (c : Control) (s : SysRegs) (level k v : ℕ) →
 unfolding write_reg
 write-keeps-shape c s level k v e = go (register_at k) e
   where
+    set : (r : Register) (b : Bool) → member shape r ≡ false
+        → same_shape c (if b then ended (control_with c r v) s Done else ended c (sys_with s r v) Done).control ≡ true
+    set r true h = shape-kept c r v h
+    set r false h = shape-self c
+
     end : (r : Register) (b : Bool) → outside_shape (Some r) ≡ true → same_shape c (if b then ended c s (Err Undefined) else wrote c s r v).control ≡ true
     end r true h = shape-self c
-    end (InSys r) false h = shape-self c
-    end (InControl r) false h = shape-kept c r v (not-true (member shape r) h)
+    end r false h = set r (in_control r) (not-true (member shape r) h)
 
     go : (f : Option Register) → outside_shape f ≡ true → same_shape c (write_found c s level f v).control ≡ true
     go None h = shape-self c

@@ -1,31 +1,29 @@
 -- What of the registers shapes a translation, and the ASID of the EL1&0 regime.
 use Rattle.std.specs.Prelude.{if◌then◌else◌, ◌≡◌, Bool, true, false, not, ◌&&◌, ◌||◌, List, [], ◌∷◌, ℕ, eqb, get_or, Some, Option, None}
 use Rattle.word.specs.Bits.{field}
-use Rattle.sysreg.specs.declared.{regs.Control.Control, regs.El.El, regs.ControlReg.ControlReg, regs.Register.Register}
-use Rattle.sysreg.specs.declared.regs.El.TheVariants.{El1, El2, El3}
-use Rattle.sysreg.specs.declared.regs.ControlReg.TheVariants.{Sctlr, Tcr, Ttbr0, Ttbr1, Scr, Hcr}
-use Rattle.sysreg.specs.declared.regs.Register.TheVariants.{InControl, InSys}
+use Rattle.sysreg.specs.declared.{regs.Control.Control, regs.Regime.Regime, regs.Register.Register}
+use Rattle.sysreg.specs.declared.regs.Regime.TheVariants.{El1, El2, El3}
+use Rattle.sysreg.specs.declared.regs.Register.TheVariants.{Sctlr, Tcr, Ttbr0, Ttbr1, Scr, Hcr}
 use Rattle.sysreg.specs.Regs.{control_at}
-use Rattle.sysreg.specs.Encoding.{control_key}
+use Rattle.sysreg.specs.Encoding.{key_of}
 use Rattle.sysreg.specs.Tcr.{a1, «as»}
 
 -- The registers that shape translations: all that translation reads but TTBR0_EL1 and TTBR1_EL1, which an ASID tells apart.
-abbrev pub shape : List ControlReg
+abbrev pub shape : List Register
 shape =
     Sctlr El1 ∷ Sctlr El2 ∷ Sctlr El3 ∷ Tcr El1 ∷ Tcr El2 ∷ Tcr El3 ∷ Ttbr0 El2 ∷ Ttbr0 El3 ∷ Hcr ∷ Scr ∷ []
 
-abbrev pub member : List ControlReg → ControlReg → Bool
+abbrev pub member : List Register → Register → Bool
 member [] r = false
-member (q ∷ qs) r = eqb (control_key q) (control_key r) || member qs r
+member (q ∷ qs) r = eqb (key_of q) (key_of r) || member qs r
 
 -- a write of what the key names leaves the shape alone
 abbrev pub outside_shape : Option Register → Bool
 outside_shape None = true
-outside_shape (Some (InSys r)) = true
-outside_shape (Some (InControl r)) = not (member shape r)
+outside_shape (Some r) = not (member shape r)
 
 -- each register of a list holds the same in both
-abbrev pub agree_on : List ControlReg → Control → Control → Bool
+abbrev pub agree_on : List Register → Control → Control → Bool
 agree_on [] a b = true
 agree_on (r ∷ rs) a b = eqb (control_at a r) (control_at b r) && agree_on rs a b
 
@@ -38,8 +36,8 @@ same_levels a b = eqb (get_or a 1 0) (get_or b 1 0) && eqb (get_or a 2 0) (get_o
 
 -- Two settings of one shape agree in all that translation reads but TTBR0_EL1 and TTBR1_EL1.
 pub record SameShape (a b : Control) : Type 0 where
-  pub sctlr : (el : El) → control_at a (Sctlr el) ≡ control_at b (Sctlr el)
-  pub tcr : (el : El) → control_at a (Tcr el) ≡ control_at b (Tcr el)
+  pub sctlr : (el : Regime) → control_at a (Sctlr el) ≡ control_at b (Sctlr el)
+  pub tcr : (el : Regime) → control_at a (Tcr el) ≡ control_at b (Tcr el)
   pub ttbr0-el2 : control_at a (Ttbr0 El2) ≡ control_at b (Ttbr0 El2)
   pub ttbr0-el3 : control_at a (Ttbr0 El3) ≡ control_at b (Ttbr0 El3)
   pub hcr : control_at a Hcr ≡ control_at b Hcr

@@ -1,15 +1,15 @@
 -- What a register write does. Letters with a number are rows of docs/DIFFERENCES.md.
 use Rattle.std.specs.Prelude.{if◌then◌else◌, Bool, true, false, List, [], ◌∷◌, ℕ, ◌+◌, ◌*◌, ◌%◌, ◌^◌, eqb, get_or, Option, Some, None, Result, Ok, Err}
 use Rattle.word.specs.Bits.{field, align_down}
-use Rattle.sysreg.specs.declared.{regs.Control.Control, regs.SysRegs.SysRegs, regs.El.El}
-use Rattle.sysreg.specs.declared.{regs.ControlReg.ControlReg, regs.SysReg.SysReg, regs.Register.Register}
+use Rattle.sysreg.specs.declared.{regs.Control.Control, regs.SysRegs.SysRegs, regs.Regime.Regime}
+use Rattle.sysreg.specs.declared.{regs.Register.Register}
 use Rattle.sysreg.specs.declared.write.WriteError.{WriteError}
-use Rattle.sysreg.specs.declared.regs.El.TheVariants.{El1, El2, El3}
-use Rattle.sysreg.specs.declared.regs.ControlReg.TheVariants.{Sctlr, Tcr, Ttbr0, Ttbr1, Scr, Hcr}
-use Rattle.sysreg.specs.declared.regs.SysReg.TheVariants.{Mair, Vbar, Elr, Spsr, Esr, Far, Vpidr, Vmpidr, Par}
-use Rattle.sysreg.specs.declared.regs.Register.TheVariants.{InControl, InSys}
+use Rattle.sysreg.specs.declared.regs.Regime.TheVariants.{El1, El2, El3}
+use Rattle.sysreg.specs.declared.regs.Register.TheVariants.{Sctlr, Tcr, Ttbr0, Ttbr1, Scr, Hcr}
+use Rattle.sysreg.specs.declared.regs.Register.TheVariants.{Mair, Vbar, Elr, Spsr, Esr, Far, Vpidr, Vmpidr, Par}
 use Rattle.sysreg.specs.declared.write.WriteError.TheVariants.{Undefined, NoRegister}
-use Rattle.sysreg.specs.Encoding.{control_key, sys_key, register_at}
+use Rattle.sysreg.specs.Regs.{in_control}
+use Rattle.sysreg.specs.Encoding.{key_of, register_at}
 
 -- the n bits of v from bit lo up, at their place
 abbrev pub in_place : ℕ → ℕ → ℕ → ℕ
@@ -20,54 +20,47 @@ in_place v lo n = field v lo n * 2 ^ lo
 unfoldable pub spsr_kept : ℕ → ℕ
 spsr_kept v = in_place v 28 4 + in_place v 21 1 + in_place v 20 1 + in_place v 16 4 + in_place v 6 4 + v % 2 ^ 5
 
--- What a register keeps of a value. VBAR_ELx<10:0> are RES0, and so are bits 63:32 of ESR_ELx and VPIDR_EL2. O5: the others, and those of `Control`,
+-- What a register keeps of a value. VBAR_ELx<10:0> are RES0, and so are bits 63:32 of ESR_ELx and VPIDR_EL2. O5: the others
 -- keep the bits that are RES0 or RES1 as they are written
-abbrev pub kept : SysReg → ℕ → ℕ
+abbrev pub kept : Register → ℕ → ℕ
 kept (Vbar el) v = align_down v 11
 kept (Spsr el) v = spsr_kept v
 kept (Esr el) v = v % 2 ^ 32
 kept Vpidr v = v % 2 ^ 32
-kept (Mair el) v = v
-kept (Elr el) v = v
-kept (Far el) v = v
-kept Vmpidr v = v
-kept Par v = v
+kept _ v = v
 
 -- What q holds after a write of v to r: where they are one register, what it keeps of v; else what it held.
-abbrev pub control_after : ControlReg → ℕ → ControlReg → ℕ → ℕ
-control_after r v q held = if eqb (control_key q) (control_key r) then v else held
-
-abbrev pub sys_after : SysReg → ℕ → SysReg → ℕ → ℕ
-sys_after r v q held = if eqb (sys_key q) (sys_key r) then kept q v else held
+abbrev pub held_after : Register → ℕ → Register → ℕ → ℕ
+held_after r v q held = if eqb (key_of q) (key_of r) then kept q v else held
 
 -- an array with f at each level, and at EL0's place what it held
-abbrev pub bank : (El → ℕ → ℕ) → List ℕ → List ℕ
+abbrev pub bank : (Regime → ℕ → ℕ) → List ℕ → List ℕ
 bank f l = get_or l 0 0 ∷ f El1 (get_or l 1 0) ∷ f El2 (get_or l 2 0) ∷ f El3 (get_or l 3 0) ∷ []
 
--- all registers after a write of v to r
-unfoldable pub control_with : Control → ControlReg → ℕ → Control
+-- the registers of each struct after a write of v to r
+unfoldable pub control_with : Control → Register → ℕ → Control
 control_with c r v =
     record {
-      sctlr = bank (λ el. control_after r v (Sctlr el)) c.sctlr;
-      tcr = bank (λ el. control_after r v (Tcr el)) c.tcr;
-      ttbr0 = bank (λ el. control_after r v (Ttbr0 el)) c.ttbr0;
-      ttbr1_el1 = control_after r v Ttbr1 c.ttbr1_el1;
-      scr_el3 = control_after r v Scr c.scr_el3;
-      hcr_el2 = control_after r v Hcr c.hcr_el2;
+      sctlr = bank (λ el. held_after r v (Sctlr el)) c.sctlr;
+      tcr = bank (λ el. held_after r v (Tcr el)) c.tcr;
+      ttbr0 = bank (λ el. held_after r v (Ttbr0 el)) c.ttbr0;
+      ttbr1_el1 = held_after r v Ttbr1 c.ttbr1_el1;
+      scr_el3 = held_after r v Scr c.scr_el3;
+      hcr_el2 = held_after r v Hcr c.hcr_el2;
     }
 
-unfoldable pub sys_with : SysRegs → SysReg → ℕ → SysRegs
+unfoldable pub sys_with : SysRegs → Register → ℕ → SysRegs
 sys_with s r v =
     record {
-      mair = bank (λ el. sys_after r v (Mair el)) s.mair;
-      vbar = bank (λ el. sys_after r v (Vbar el)) s.vbar;
-      elr = bank (λ el. sys_after r v (Elr el)) s.elr;
-      spsr = bank (λ el. sys_after r v (Spsr el)) s.spsr;
-      esr = bank (λ el. sys_after r v (Esr el)) s.esr;
-      far = bank (λ el. sys_after r v (Far el)) s.far;
-      vpidr_el2 = sys_after r v Vpidr s.vpidr_el2;
-      vmpidr_el2 = sys_after r v Vmpidr s.vmpidr_el2;
-      par_el1 = sys_after r v Par s.par_el1;
+      mair = bank (λ el. held_after r v (Mair el)) s.mair;
+      vbar = bank (λ el. held_after r v (Vbar el)) s.vbar;
+      elr = bank (λ el. held_after r v (Elr el)) s.elr;
+      spsr = bank (λ el. held_after r v (Spsr el)) s.spsr;
+      esr = bank (λ el. held_after r v (Esr el)) s.esr;
+      far = bank (λ el. held_after r v (Far el)) s.far;
+      vpidr_el2 = held_after r v Vpidr s.vpidr_el2;
+      vmpidr_el2 = held_after r v Vmpidr s.vmpidr_el2;
+      par_el1 = held_after r v Par s.par_el1;
     }
 
 abbrev pub WriteAnswer : Type 0
@@ -87,8 +80,7 @@ abbrev pub ended : Control → SysRegs → WriteAnswer → Written
 ended c s a = record { control = c; sys = s; answer = a }
 
 abbrev pub wrote : Control → SysRegs → Register → ℕ → Written
-wrote c s (InControl r) v = ended (control_with c r v) s Done
-wrote c s (InSys r) v = ended c (sys_with s r v) Done
+wrote c s r v = if in_control r then ended (control_with c r v) s Done else ended c (sys_with s r v) Done
 
 -- A key that names no register is refused first; then EL0 may write none; then the register is written. M22, R1: below the
 -- register's own level too. M7: at Non-secure EL1 HCR_EL2 could trap the write

@@ -2,7 +2,7 @@
 ghost use Rattle.std.specs.Prelude.{◌≡◌};
 ghost use Rattle.sysreg.specs.Encoding.{key_word, banked_at, register_at};
 
-use crate::regs::{ControlReg, El, Register, SysReg};
+use crate::regs::{Regime, Register};
 
 /// `PAR_EL1`.
 pub const PAR_EL1: u32 = 0xC3A0;
@@ -20,38 +20,38 @@ pub fn banked(k: u32) -> Option<Register>
     ensures { result ≡ banked_at k }
 {
     Some(match k {
-        0xC080 => Register::InControl(ControlReg::Sctlr(El::El1)),
-        0xE080 => Register::InControl(ControlReg::Sctlr(El::El2)),
-        0xF080 => Register::InControl(ControlReg::Sctlr(El::El3)),
-        0xC100 => Register::InControl(ControlReg::Ttbr0(El::El1)),
-        0xE100 => Register::InControl(ControlReg::Ttbr0(El::El2)),
-        0xF100 => Register::InControl(ControlReg::Ttbr0(El::El3)),
-        0xC102 => Register::InControl(ControlReg::Tcr(El::El1)),
-        0xE102 => Register::InControl(ControlReg::Tcr(El::El2)),
-        0xF102 => Register::InControl(ControlReg::Tcr(El::El3)),
-        0xC200 => Register::InSys(SysReg::Spsr(El::El1)),
-        0xE200 => Register::InSys(SysReg::Spsr(El::El2)),
-        0xF200 => Register::InSys(SysReg::Spsr(El::El3)),
-        0xC201 => Register::InSys(SysReg::Elr(El::El1)),
-        0xE201 => Register::InSys(SysReg::Elr(El::El2)),
-        0xF201 => Register::InSys(SysReg::Elr(El::El3)),
-        0xC290 => Register::InSys(SysReg::Esr(El::El1)),
-        0xE290 => Register::InSys(SysReg::Esr(El::El2)),
-        0xF290 => Register::InSys(SysReg::Esr(El::El3)),
-        0xC300 => Register::InSys(SysReg::Far(El::El1)),
-        0xE300 => Register::InSys(SysReg::Far(El::El2)),
-        0xF300 => Register::InSys(SysReg::Far(El::El3)),
-        0xC510 => Register::InSys(SysReg::Mair(El::El1)),
-        0xE510 => Register::InSys(SysReg::Mair(El::El2)),
-        0xF510 => Register::InSys(SysReg::Mair(El::El3)),
-        0xC600 => Register::InSys(SysReg::Vbar(El::El1)),
-        0xE600 => Register::InSys(SysReg::Vbar(El::El2)),
-        0xF600 => Register::InSys(SysReg::Vbar(El::El3)),
-        0xC101 => Register::InControl(ControlReg::Ttbr1),
-        0xE088 => Register::InControl(ControlReg::Hcr),
-        0xF088 => Register::InControl(ControlReg::Scr),
-        0xE000 => Register::InSys(SysReg::Vpidr),
-        0xE005 => Register::InSys(SysReg::Vmpidr),
+        0xC080 => Register::Sctlr(Regime::El1),
+        0xE080 => Register::Sctlr(Regime::El2),
+        0xF080 => Register::Sctlr(Regime::El3),
+        0xC100 => Register::Ttbr0(Regime::El1),
+        0xE100 => Register::Ttbr0(Regime::El2),
+        0xF100 => Register::Ttbr0(Regime::El3),
+        0xC102 => Register::Tcr(Regime::El1),
+        0xE102 => Register::Tcr(Regime::El2),
+        0xF102 => Register::Tcr(Regime::El3),
+        0xC200 => Register::Spsr(Regime::El1),
+        0xE200 => Register::Spsr(Regime::El2),
+        0xF200 => Register::Spsr(Regime::El3),
+        0xC201 => Register::Elr(Regime::El1),
+        0xE201 => Register::Elr(Regime::El2),
+        0xF201 => Register::Elr(Regime::El3),
+        0xC290 => Register::Esr(Regime::El1),
+        0xE290 => Register::Esr(Regime::El2),
+        0xF290 => Register::Esr(Regime::El3),
+        0xC300 => Register::Far(Regime::El1),
+        0xE300 => Register::Far(Regime::El2),
+        0xF300 => Register::Far(Regime::El3),
+        0xC510 => Register::Mair(Regime::El1),
+        0xE510 => Register::Mair(Regime::El2),
+        0xF510 => Register::Mair(Regime::El3),
+        0xC600 => Register::Vbar(Regime::El1),
+        0xE600 => Register::Vbar(Regime::El2),
+        0xF600 => Register::Vbar(Regime::El3),
+        0xC101 => Register::Ttbr1,
+        0xE088 => Register::Hcr,
+        0xF088 => Register::Scr,
+        0xE000 => Register::Vpidr,
+        0xE005 => Register::Vmpidr,
         _ => return None,
     })
 }
@@ -62,7 +62,7 @@ pub fn named(k: u32) -> Option<Register>
     ensures { result ≡ register_at k }
 {
     if k == PAR_EL1 {
-        Some(Register::InSys(SysReg::Par))
+        Some(Register::Par)
     } else {
         banked(k)
     }

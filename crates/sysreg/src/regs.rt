@@ -1,7 +1,24 @@
 // The registers as two structs: what translation reads, and the rest. Arrays are indexed by exception level; index 0 is
 // never written.
 ghost use Rattle.std.specs.Prelude.{◌≡◌, ◌<◌};
-ghost use Rattle.sysreg.specs.Regs.{level_of, fresh_control, fresh_sys};
+ghost use Rattle.sysreg.specs.Regs.{index_of, regime_at, regime_of, single_priv, fresh_control, fresh_sys};
+
+/// `SCR_EL3` bits that are consulted.
+pub const SCR_NS: u64 = 1 << 0;
+
+pub const SCR_SMD: u64 = 1 << 7;
+
+pub const SCR_HCE: u64 = 1 << 8;
+/// `HCR_EL2` bits that are consulted.
+pub const HCR_DC: u64 = 1 << 12;
+
+pub const HCR_TSC: u64 = 1 << 19;
+
+pub const HCR_TGE: u64 = 1 << 27;
+/// `SCTLR_ELx.M`: stage 1 translation on.
+pub const SCTLR_M: u64 = 1 << 0;
+/// `SCTLR_ELx.WXN`: what may be written is not executed.
+pub const SCTLR_WXN: u64 = 1 << 19;
 
 /// All that translation reads.
 #[derive(Clone, Copy)]
@@ -28,50 +45,83 @@ pub struct SysRegs {
     pub par_el1: u64,
 }
 
-/// The exception level whose instance of a register is meant.
-#[derive(Clone, Copy)]
-pub enum El {
+/// The translation regimes EL1&0, EL2 and EL3, each by the exception level whose registers it uses.
+#[derive(Clone, Copy, PartialEq, Eq)]
+pub enum Regime {
     El1 = 1,
     El2,
     El3,
 }
 
-/// A register of `Control`.
+/// A number other than 1, 2 and 3, which name a regime.
+#[derive(Clone, Copy, Debug)]
+pub struct NoSuchRegime(pub u64);
+
+/// A register kept; of one that is banked by exception level, the level's instance.
 #[derive(Clone, Copy)]
-pub enum ControlReg {
-    Sctlr(El),
-    Tcr(El),
-    Ttbr0(El),
+pub enum Register {
+    Sctlr(Regime),
+    Tcr(Regime),
+    Ttbr0(Regime),
     Ttbr1,
     Scr,
     Hcr,
-}
-
-/// A register of `SysRegs`.
-#[derive(Clone, Copy)]
-pub enum SysReg {
-    Mair(El),
-    Vbar(El),
-    Elr(El),
-    Spsr(El),
-    Esr(El),
-    Far(El),
+    Mair(Regime),
+    Vbar(Regime),
+    Elr(Regime),
+    Spsr(Regime),
+    Esr(Regime),
+    Far(Regime),
     Vpidr,
     Vmpidr,
     Par,
 }
 
-/// A register, by the struct that holds it.
-#[derive(Clone, Copy)]
-pub enum Register {
-    InControl(ControlReg),
-    InSys(SysReg),
+impl TryFrom<u64> for Regime {
+    type Error = NoSuchRegime;
+
+    ghost try_from_gives = { λ number regime. regime ≡ regime_at number };
+
+    fn try_from(number: u64) -> Result<Regime, NoSuchRegime> {
+        match number {
+            1 => Ok(Regime::El1),
+            2 => Ok(Regime::El2),
+            3 => Ok(Regime::El3),
+            _ => Err(NoSuchRegime(number)),
+        }
+    }
 }
 
-impl El {
-    /// The place of the level's instance in an array.
+impl From<Regime> for u64 {
+    ghost from_gives = { λ regime number. number ≡ index_of regime };
+
+    fn from(regime: Regime) -> u64 {
+        regime as u64
+    }
+}
+
+impl Regime {
+    /// The regime of an exception level: EL0 shares that of EL1.
+    pub fn of_level(level: u8) -> Self
+        ensures { result ≡ regime_of level }
+    {
+        match level {
+            2 => Regime::El2,
+            3 => Regime::El3,
+            _ => Regime::El1,
+        }
+    }
+
+    /// Whether the regime has one privilege level and one range of addresses.
+    pub fn is_single(self) -> bool
+        ensures { result ≡ single_priv self }
+    {
+        self != Regime::El1
+    }
+
+    /// The place of the regime's own register in an array.
     pub fn index(self) -> usize
-        ensures value { result ≡ level_of self }
+        ensures value { result ≡ index_of self }
         ensures upper_bound { result < 4 }
     {
         self as usize

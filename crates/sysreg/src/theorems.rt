@@ -2,23 +2,20 @@
 // the theorem.
 ghost use Rattle.std.specs.Prelude.{◌≡◌, ℕ, ◌^◌, ◌≤◌, ◌<◌, true, false, ◌≢◌, Some, None, Err, [], ◌∷◌, map, bit_and};
 ghost use Rattle.word.specs.Places.{bits, bit, FieldAt, BitAt};
-ghost use Rattle.sysreg.specs.Regs.{control_at, sys_at, fresh_control, fresh_sys};
-ghost use Rattle.sysreg.specs.Encoding.{encode, key_word, key_of, each_control, each_sys, register_at};
+ghost use Rattle.sysreg.specs.Regs.{control_at, sys_at, reg_at, in_control, fresh_control, fresh_sys};
+ghost use Rattle.sysreg.specs.Encoding.{encode, key_word, key_of, at_each, register_at};
 ghost use Rattle.sysreg.specs.Tcr.{t0sz, tg0, epd0, t1sz, a1, epd1, tg1, ips, «as», tbi0, tbi1, ps, tbi};
-ghost use Rattle.sysreg.specs.Write.{kept, control_with, sys_with, ended, wrote, write_reg};
+ghost use Rattle.sysreg.specs.Write.{kept, control_with, ended, wrote, write_reg};
 ghost use Rattle.sysreg.specs.Shape.{outside_shape, same_shape, asid_of};
 ghost use Rattle.sysreg.specs.Shape.{SameShape};
 ghost use Rattle.sysreg.specs.Cases.{control_registers, system_registers, keeps_fresh_shape, asids_under};
-ghost use Rattle.sysreg.specs.declared.regs.El.{El};
-ghost use Rattle.sysreg.specs.declared.regs.El.TheVariants.{El1};
+ghost use Rattle.sysreg.specs.declared.regs.Regime.{Regime};
+ghost use Rattle.sysreg.specs.declared.regs.Regime.TheVariants.{El1};
 ghost use Rattle.sysreg.specs.declared.regs.Control.{Control};
 ghost use Rattle.sysreg.specs.declared.regs.SysRegs.{SysRegs};
-ghost use Rattle.sysreg.specs.declared.regs.ControlReg.{ControlReg};
-ghost use Rattle.sysreg.specs.declared.regs.SysReg.{SysReg};
 ghost use Rattle.sysreg.specs.declared.regs.Register.{Register};
-ghost use Rattle.sysreg.specs.declared.regs.Register.TheVariants.{InControl, InSys};
-ghost use Rattle.sysreg.specs.declared.regs.ControlReg.TheVariants.{Sctlr, Tcr, Ttbr0, Ttbr1, Hcr, Scr};
-ghost use Rattle.sysreg.specs.declared.regs.SysReg.TheVariants.{Mair, Vbar, Elr, Spsr, Esr, Far, Vpidr, Vmpidr, Par};
+ghost use Rattle.sysreg.specs.declared.regs.Register.TheVariants.{Sctlr, Tcr, Ttbr0, Ttbr1, Hcr, Scr};
+ghost use Rattle.sysreg.specs.declared.regs.Register.TheVariants.{Mair, Vbar, Elr, Spsr, Esr, Far, Vpidr, Vmpidr, Par};
 ghost use Rattle.sysreg.specs.declared.write.WriteError.TheVariants.{Undefined, NoRegister};
 
 // Where each field of TCR_ELx lies, of every word. It rules out a field that code and definition both read at a wrong
@@ -45,21 +42,21 @@ pub fn places_in_tcr()
 // The keys as numbers, of EL1, EL2 and EL3 where a register has an instance at each. It rules out two registers whose
 // encodings are exchanged in code and definition alike, as TCR_EL2's and TCR_EL3's.
 pub fn keys_of_registers()
-    ensures sctlr { map key_of (each_control Sctlr) ≡ (0xC080 ∷ 0xE080 ∷ 0xF080 ∷ []) }
-    ensures tcr { map key_of (each_control Tcr) ≡ (0xC102 ∷ 0xE102 ∷ 0xF102 ∷ []) }
-    ensures ttbr0 { map key_of (each_control Ttbr0) ≡ (0xC100 ∷ 0xE100 ∷ 0xF100 ∷ []) }
-    ensures mair { map key_of (each_sys Mair) ≡ (0xC510 ∷ 0xE510 ∷ 0xF510 ∷ []) }
-    ensures vbar { map key_of (each_sys Vbar) ≡ (0xC600 ∷ 0xE600 ∷ 0xF600 ∷ []) }
-    ensures elr { map key_of (each_sys Elr) ≡ (0xC201 ∷ 0xE201 ∷ 0xF201 ∷ []) }
-    ensures spsr { map key_of (each_sys Spsr) ≡ (0xC200 ∷ 0xE200 ∷ 0xF200 ∷ []) }
-    ensures esr { map key_of (each_sys Esr) ≡ (0xC290 ∷ 0xE290 ∷ 0xF290 ∷ []) }
-    ensures far { map key_of (each_sys Far) ≡ (0xC300 ∷ 0xE300 ∷ 0xF300 ∷ []) }
-    ensures ttbr1_el1 { key_of (InControl Ttbr1) ≡ 0xC101 }
-    ensures hcr_el2 { key_of (InControl Hcr) ≡ 0xE088 }
-    ensures scr_el3 { key_of (InControl Scr) ≡ 0xF088 }
-    ensures vpidr_el2 { key_of (InSys Vpidr) ≡ 0xE000 }
-    ensures vmpidr_el2 { key_of (InSys Vmpidr) ≡ 0xE005 }
-    ensures par_el1 { key_of (InSys Par) ≡ 0xC3A0 }
+    ensures sctlr { map key_of (at_each Sctlr) ≡ (0xC080 ∷ 0xE080 ∷ 0xF080 ∷ []) }
+    ensures tcr { map key_of (at_each Tcr) ≡ (0xC102 ∷ 0xE102 ∷ 0xF102 ∷ []) }
+    ensures ttbr0 { map key_of (at_each Ttbr0) ≡ (0xC100 ∷ 0xE100 ∷ 0xF100 ∷ []) }
+    ensures mair { map key_of (at_each Mair) ≡ (0xC510 ∷ 0xE510 ∷ 0xF510 ∷ []) }
+    ensures vbar { map key_of (at_each Vbar) ≡ (0xC600 ∷ 0xE600 ∷ 0xF600 ∷ []) }
+    ensures elr { map key_of (at_each Elr) ≡ (0xC201 ∷ 0xE201 ∷ 0xF201 ∷ []) }
+    ensures spsr { map key_of (at_each Spsr) ≡ (0xC200 ∷ 0xE200 ∷ 0xF200 ∷ []) }
+    ensures esr { map key_of (at_each Esr) ≡ (0xC290 ∷ 0xE290 ∷ 0xF290 ∷ []) }
+    ensures far { map key_of (at_each Far) ≡ (0xC300 ∷ 0xE300 ∷ 0xF300 ∷ []) }
+    ensures ttbr1_el1 { key_of Ttbr1 ≡ 0xC101 }
+    ensures hcr_el2 { key_of Hcr ≡ 0xE088 }
+    ensures scr_el3 { key_of Scr ≡ 0xF088 }
+    ensures vpidr_el2 { key_of Vpidr ≡ 0xE000 }
+    ensures vmpidr_el2 { key_of Vmpidr ≡ 0xE005 }
+    ensures par_el1 { key_of Par ≡ 0xC3A0 }
 {}
 
 // Each register has an encoding of its own, which names it and nothing else, and the key of fields within their widths
@@ -90,12 +87,12 @@ pub fn shape_of_translations()
 // of TTBR1_EL1 that empties the cache, and one of any other control register that does not.
 pub fn shape_after_writes()
     ensures shaped { (a b : Control) → SameShape a b → same_shape a b ≡ true }
-    ensures changed { (c : Control) (r : ControlReg) (v : ℕ) → r ≢ Ttbr0 El1 → r ≢ Ttbr1 → control_at c r ≢ v
-        → same_shape c (control_with c r v) ≡ false }
+    ensures changed { (c : Control) (r : Register) (v : ℕ) → in_control r ≡ true → r ≢ Ttbr0 El1 → r ≢ Ttbr1
+        → control_at c r ≢ v → same_shape c (control_with c r v) ≡ false }
     ensures ttbr0_el1 { (c : Control) (v : ℕ) → same_shape c (control_with c (Ttbr0 El1) v) ≡ true }
     ensures ttbr1_el1 { (c : Control) (v : ℕ) → same_shape c (control_with c Ttbr1 v) ≡ true }
-    ensures system { (c : Control) (s : SysRegs) (level k v : ℕ) (r : SysReg)
-        → register_at k ≡ Some (InSys r) → same_shape c (write_reg c s level k v).control ≡ true }
+    ensures system { (c : Control) (s : SysRegs) (level k v : ℕ) (r : Register)
+        → register_at k ≡ Some r → in_control r ≡ false → same_shape c (write_reg c s level k v).control ≡ true }
     // SCTLR, TCR and TTBR0 of EL1, EL2 and EL3; TTBR1_EL1, SCR_EL3 and HCR_EL2
     ensures rows { map (keeps_fresh_shape 1) control_registers
         ≡ (false ∷ false ∷ false ∷ false ∷ false ∷ false ∷ true ∷ false ∷ false ∷ true ∷ false ∷ false ∷ []) }
@@ -121,18 +118,19 @@ pub fn asids_of_settings()
         ≡ (0x22 ∷ 0x1122 ∷ 0x44 ∷ 0x3344 ∷ []) }
 {}
 
-// What a system register keeps of a value, as a mask: the value's bits that are kept of all ones. VBAR drops bits 10:0,
+// What a register keeps of a value, as a mask: the value's bits that are kept of all ones. VBAR drops bits 10:0,
 // SPSR keeps NZCV, SS, IL, GE, DAIF and M, ESR and VPIDR_EL2 bits 31:0, every other all 64. It rules out a bit too many
 // or too few.
 pub fn bits_kept_by_registers()
-    ensures masked { (r : SysReg) (v : ℕ) → v < 2 ^ 64 → kept r v ≡ bit_and v (kept r 0xFFFF_FFFF_FFFF_FFFF) }
-    ensures vbar { (el : El) → kept (Vbar el) 0xFFFF_FFFF_FFFF_FFFF ≡ 0xFFFF_FFFF_FFFF_F800 }
-    ensures spsr { (el : El) → kept (Spsr el) 0xFFFF_FFFF_FFFF_FFFF ≡ 0xF03F_03DF }
-    ensures esr { (el : El) → kept (Esr el) 0xFFFF_FFFF_FFFF_FFFF ≡ 0xFFFF_FFFF }
+    ensures masked { (r : Register) (v : ℕ) → v < 2 ^ 64 → kept r v ≡ bit_and v (kept r 0xFFFF_FFFF_FFFF_FFFF) }
+    ensures control { (r : Register) (v : ℕ) → in_control r ≡ true → kept r v ≡ v }
+    ensures vbar { (r : Regime) → kept (Vbar r) 0xFFFF_FFFF_FFFF_FFFF ≡ 0xFFFF_FFFF_FFFF_F800 }
+    ensures spsr { (r : Regime) → kept (Spsr r) 0xFFFF_FFFF_FFFF_FFFF ≡ 0xF03F_03DF }
+    ensures esr { (r : Regime) → kept (Esr r) 0xFFFF_FFFF_FFFF_FFFF ≡ 0xFFFF_FFFF }
     ensures vpidr_el2 { kept Vpidr 0xFFFF_FFFF_FFFF_FFFF ≡ 0xFFFF_FFFF }
-    ensures mair { (el : El) → kept (Mair el) 0xFFFF_FFFF_FFFF_FFFF ≡ 0xFFFF_FFFF_FFFF_FFFF }
-    ensures elr { (el : El) → kept (Elr el) 0xFFFF_FFFF_FFFF_FFFF ≡ 0xFFFF_FFFF_FFFF_FFFF }
-    ensures far { (el : El) → kept (Far el) 0xFFFF_FFFF_FFFF_FFFF ≡ 0xFFFF_FFFF_FFFF_FFFF }
+    ensures mair { (r : Regime) → kept (Mair r) 0xFFFF_FFFF_FFFF_FFFF ≡ 0xFFFF_FFFF_FFFF_FFFF }
+    ensures elr { (r : Regime) → kept (Elr r) 0xFFFF_FFFF_FFFF_FFFF ≡ 0xFFFF_FFFF_FFFF_FFFF }
+    ensures far { (r : Regime) → kept (Far r) 0xFFFF_FFFF_FFFF_FFFF ≡ 0xFFFF_FFFF_FFFF_FFFF }
     ensures vmpidr_el2 { kept Vmpidr 0xFFFF_FFFF_FFFF_FFFF ≡ 0xFFFF_FFFF_FFFF_FFFF }
     ensures par_el1 { kept Par 0xFFFF_FFFF_FFFF_FFFF ≡ 0xFFFF_FFFF_FFFF_FFFF }
 {}
@@ -149,7 +147,7 @@ pub fn values_of_reset()
 {}
 
 // A register write at EL0 is Undefined, one of a key that names no register is answered so, and every other writes the
-// register that it names, a system register with the bits kept of the value, and no other.
+// register that it names, with the bits kept of the value, and no other.
 pub fn effect_of_writes()
     ensures undefined_at_el0 { (c : Control) (s : SysRegs) (level k v : ℕ) (r : Register)
         → register_at k ≡ Some r → level ≡ 0 → write_reg c s level k v ≡ ended c s (Err Undefined) }
@@ -157,14 +155,12 @@ pub fn effect_of_writes()
         → register_at k ≡ None → write_reg c s level k v ≡ ended c s (Err NoRegister) }
     ensures done { (c : Control) (s : SysRegs) (level k v : ℕ) (r : Register)
         → register_at k ≡ Some r → level ≢ 0 → write_reg c s level k v ≡ wrote c s r v }
-    ensures control_keeps_system { (c : Control) (s : SysRegs) (level k v : ℕ) (r : ControlReg)
-        → register_at k ≡ Some (InControl r) → (write_reg c s level k v).sys ≡ s }
-    ensures system_keeps_control { (c : Control) (s : SysRegs) (level k v : ℕ) (r : SysReg)
-        → register_at k ≡ Some (InSys r) → (write_reg c s level k v).control ≡ c }
-    ensures control_written { (c : Control) (r : ControlReg) (v : ℕ) → control_at (control_with c r v) r ≡ v }
-    ensures control_others { (c : Control) (r : ControlReg) (v : ℕ) (q : ControlReg)
-        → q ≢ r → control_at (control_with c r v) q ≡ control_at c q }
-    ensures system_written { (s : SysRegs) (r : SysReg) (v : ℕ) → sys_at (sys_with s r v) r ≡ kept r v }
-    ensures system_others { (s : SysRegs) (r : SysReg) (v : ℕ) (q : SysReg)
-        → q ≢ r → sys_at (sys_with s r v) q ≡ sys_at s q }
+    ensures control_keeps_system { (c : Control) (s : SysRegs) (level k v : ℕ) (r : Register)
+        → register_at k ≡ Some r → in_control r ≡ true → (write_reg c s level k v).sys ≡ s }
+    ensures system_keeps_control { (c : Control) (s : SysRegs) (level k v : ℕ) (r : Register)
+        → register_at k ≡ Some r → in_control r ≡ false → (write_reg c s level k v).control ≡ c }
+    ensures written { (c : Control) (s : SysRegs) (r : Register) (v : ℕ)
+        → reg_at (wrote c s r v).control (wrote c s r v).sys r ≡ kept r v }
+    ensures others { (c : Control) (s : SysRegs) (r : Register) (v : ℕ) (q : Register)
+        → q ≢ r → reg_at (wrote c s r v).control (wrote c s r v).sys q ≡ reg_at c s q }
 {}

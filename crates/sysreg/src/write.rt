@@ -1,9 +1,9 @@
 // MSR to the registers kept.
 ghost use Rattle.std.specs.Prelude.{◌≡◌, Err};
-ghost use Rattle.sysreg.specs.Write.{control_with, sys_with, write_reg, reply_of, reply_to};
+ghost use Rattle.sysreg.specs.Write.{write_reg, reply_of, reply_to};
 
 use crate::encoding::named;
-use crate::regs::{Control, ControlReg, Register, SysReg, SysRegs};
+use crate::regs::{Control, Register, SysRegs};
 
 /// What keeps a register from being written.
 #[derive(Clone, Copy)]
@@ -14,46 +14,10 @@ pub enum WriteError {
     NoRegister,
 }
 
-impl Control {
-    #[tactic(auto, using(crate::proofs::Stores::four), unfolding(crate::specs::Write::control_with))]
-    fn write(&mut self, register: ControlReg, value: u64)
-        ensures { self.new ≡ control_with self.old register value }
-    {
-        match register {
-            ControlReg::Sctlr(el) => self.sctlr[el.index()] = value,
-            ControlReg::Tcr(el) => self.tcr[el.index()] = value,
-            ControlReg::Ttbr0(el) => self.ttbr0[el.index()] = value,
-            ControlReg::Ttbr1 => self.ttbr1_el1 = value,
-            ControlReg::Scr => self.scr_el3 = value,
-            ControlReg::Hcr => self.hcr_el2 = value,
-        }
-    }
-}
-
-impl SysRegs {
-    // VBAR, SPSR, ESR and VPIDR_EL2 keep the bits that are not RES0.
-    #[tactic(auto, using(crate::proofs::Stores::four, crate::proofs::Masks::masks), unfolding(crate::specs::Write::sys_with))]
-    fn write(&mut self, register: SysReg, value: u64)
-        ensures { self.new ≡ sys_with self.old register value }
-    {
-        match register {
-            SysReg::Mair(el) => self.mair[el.index()] = value,
-            SysReg::Vbar(el) => self.vbar[el.index()] = value & !0x7FF,
-            SysReg::Elr(el) => self.elr[el.index()] = value,
-            SysReg::Spsr(el) => self.spsr[el.index()] = value & 0xF03F_03DF,
-            SysReg::Esr(el) => self.esr[el.index()] = value & 0xFFFF_FFFF,
-            SysReg::Far(el) => self.far[el.index()] = value,
-            SysReg::Vpidr => self.vpidr_el2 = value & 0xFFFF_FFFF,
-            SysReg::Vmpidr => self.vmpidr_el2 = value,
-            SysReg::Par => self.par_el1 = value,
-        }
-    }
-}
-
-/// `MSR`: a key that names no register kept is refused; else EL0 may write none; else the register is written. A write
-/// that is refused changes nothing.
+/// `MSR`: a key that names no register kept is refused; else EL0 may write none; else the register is written, of
+/// VBAR, SPSR, ESR and VPIDR_EL2 the bits that are not RES0. A write that is refused changes nothing.
 #[inline(always)]
-#[tactic(auto, unfolding(crate::specs::Write::write_reg))]
+#[tactic(auto, using(crate::proofs::Stores::four, crate::proofs::Masks::masks), unfolding(crate::specs::Write::write_reg, crate::specs::Write::control_with, crate::specs::Write::sys_with))]
 pub fn write_reg(
     control: &mut Control,
     sys: &mut SysRegs,
@@ -72,8 +36,21 @@ pub fn write_reg(
         return Err(WriteError::Undefined);
     }
     match register {
-        Register::InControl(r) => control.write(r, value),
-        Register::InSys(r) => sys.write(r, value),
+        Register::Sctlr(r) => control.sctlr[r.index()] = value,
+        Register::Tcr(r) => control.tcr[r.index()] = value,
+        Register::Ttbr0(r) => control.ttbr0[r.index()] = value,
+        Register::Ttbr1 => control.ttbr1_el1 = value,
+        Register::Scr => control.scr_el3 = value,
+        Register::Hcr => control.hcr_el2 = value,
+        Register::Mair(r) => sys.mair[r.index()] = value,
+        Register::Vbar(r) => sys.vbar[r.index()] = value & !0x7FF,
+        Register::Elr(r) => sys.elr[r.index()] = value,
+        Register::Spsr(r) => sys.spsr[r.index()] = value & 0xF03F_03DF,
+        Register::Esr(r) => sys.esr[r.index()] = value & 0xFFFF_FFFF,
+        Register::Far(r) => sys.far[r.index()] = value,
+        Register::Vpidr => sys.vpidr_el2 = value & 0xFFFF_FFFF,
+        Register::Vmpidr => sys.vmpidr_el2 = value,
+        Register::Par => sys.par_el1 = value,
     }
     Ok(())
 }

@@ -5,8 +5,8 @@ use Rattle.std.proofs.Common.{sym, ap, subst, ◌∙◌, inl, inr, arith, eqb-tr
 use Rattle.std.proofs.lemmas.Bool.{false≢true, lt-leb}
 use Rattle.std.proofs.Math.Dec.{leb}
 use Rattle.word.proofs.BitLaws.{both}
-use Rattle.walk.specs.declared.regime.Regime.{Regime}
-use Rattle.walk.specs.declared.regime.Regime.TheVariants.{El1, El2, El3}
+use Rattle.sysreg.specs.declared.regs.Regime.{Regime}
+use Rattle.sysreg.specs.declared.regs.Regime.TheVariants.{El1, El2, El3}
 use Rattle.system.specs.declared.{decode.AtForm.AtForm, decode.SysOp.SysOp}
 use Rattle.system.specs.declared.decode.SysOp.TheVariants.{At, Tlbi, Zva, Nothing, Undefined, Unimplemented}
 use Rattle.system.specs.Decode.{Row, table, absent, holds, encodes, look_up, named, operation, refusal, ruled, decode_of, TlbiFields}

@@ -4,7 +4,8 @@ use Rattle.std.proofs.Math.Path.{refl, ap}
 use Rattle.std.proofs.Common.{◌∙◌, arith}
 use Rattle.word.specs.Bits.{bit_on, bit0, field}
 use Rattle.sysreg.specs.declared.regs.Control.{Control}
-use Rattle.walk.specs.Regime.{bank_of, single_priv, wxn_of, stage1_on}
+use Rattle.walk.specs.Regime.{bank_of, wxn_of, stage1_on}
+use Rattle.sysreg.specs.Regs.{single_priv}
 use Rattle.walk.specs.Descriptor.{attr_indx, ns, sh}
 use Rattle.walk.specs.Table.{Translation, Result, mapped, faults, table_walk}
 use Rattle.walk.specs.Permission.{permission_byte}

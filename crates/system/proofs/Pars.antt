@@ -3,7 +3,8 @@ use Rattle.std.specs.Prelude.{Option, Ok}
 use Rattle.std.proofs.Common.{◌≡◌, ℕ, ◌≤◌}
 use Rattle.walk.specs.Fresh.{fresh_of}
 use Rattle.walk.proofs.FreshLaws.{fresh-leaf}
-use Rattle.walk.specs.declared.{regime.Bank.Bank, regime.Regime.Regime, level.Leaf.Leaf}
+use Rattle.walk.specs.declared.{regime.Bank.Bank, level.Leaf.Leaf}
+use Rattle.sysreg.specs.declared.regs.Regime.{Regime}
 use Rattle.walk.specs.declared.fresh.Fresh.{Fresh}
 use Rattle.walk.specs.declared.fresh.Fresh.TheVariants.{Ended}
 use Rattle.walk.specs.Answers.{Walked}

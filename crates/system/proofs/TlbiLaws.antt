@@ -4,7 +4,7 @@ use Rattle.std.proofs.Common.{subst, arith}
 use Rattle.word.specs.Bits.{field}
 use Rattle.sysreg.specs.Tcr.{«as»}
 use Rattle.sysreg.specs.declared.regs.Control.{Control}
-use Rattle.walk.specs.declared.regime.Regime.TheVariants.{El1}
+use Rattle.sysreg.specs.declared.regs.Regime.TheVariants.{El1}
 use Rattle.tlb.specs.declared.Inval.{Inval}
 use Rattle.tlb.specs.declared.Inval.TheVariants.{All, Page, Asid}
 use Rattle.system.specs.Tlbi.{Scope, everything, asid_form, ranged, scope_of, tcr_of, pages4k, what_of, tlbi_of}

@@ -1,11 +1,11 @@
 -- Bits tested by AND, and the two formats of PAR_EL1, joined by OR.
-use Rattle.std.proofs.Common.{◌≡◌, refl, ap₂, nat_eq, not, ℕ, zero, suc, ◌+◌, ◌*◌, ◌/◌, ◌%◌, ◌^◌, ◌<◌, Bool, true, false, sym, ap, ◌∙◌, mod-eq_of_lt, arith}
+use Rattle.std.proofs.Common.{◌≡◌, refl, ap₂, nat_eq, not, ℕ, zero, suc, ◌+◌, ◌*◌, ◌/◌, ◌%◌, ◌^◌, ◌<◌, ◌≤◌, Bool, true, false, sym, ap, ◌∙◌, mod-eq_of_lt, arith}
 use lib.Bits.{bit_and, bit_or, and_mask, and_block, and_le_r, or_shifted, or_shifted_r}
 use lib.Pow.{split}
 use mir.Val.{bool_byte}
 use Rattle.std.proofs.lemmas.Nat.Bits.{and_pow}
 use Rattle.word.specs.Bits.{bit0, bit_on, field, flag}
-use Rattle.walk.specs.declared.regime.Regime.{Regime}
+use Rattle.sysreg.specs.declared.regs.Regime.{Regime}
 use Rattle.system.specs.declared.decode.SysOp.TheVariants.{At}
 use Rattle.system.specs.Par.{success, abort}
 
@@ -36,6 +36,10 @@ unfolding abort
 fault_word fsc h =
     let m : fsc * 2 % 2 ^ 64 ≡ fsc * 2 = mod-eq_of_lt (omega arith) in
     rw (m, or_shifted_r fsc 1 1 (omega arith), or_shifted_r 1 11 (fsc * 2 + 1) (omega arith)) (omega arith)
+
+-- the status of a permission fault
+pub permission_status : (level : ℕ) → level ≤ 3 → bit_or 12 level ≡ 12 + level
+permission_status level h = or_shifted 3 2 level (omega arith)
 
 -- PA<47:12>
 pa_masked : (pa : ℕ) → bit_and pa 0xFFFF_FFFF_F000 ≡ field pa 12 36 * 2 ^ 12

@@ -2,8 +2,8 @@
 -- from knowledge of ARMv8.0: the document itself was not at hand). A1, M6 and the like are rows of docs/DIFFERENCES.md,
 -- each at the line where the manual has something else.
 use Rattle.std.specs.Prelude.{if◌then◌else◌, ◌≡◌, ◌⊎◌, Bool, true, false, ◌&&◌, List, [], ◌∷◌, ◌++◌, ℕ, ◌==◌, leb}
-use Rattle.walk.specs.declared.regime.Regime.{Regime}
-use Rattle.walk.specs.declared.regime.Regime.TheVariants.{El1, El2, El3}
+use Rattle.sysreg.specs.declared.regs.Regime.{Regime}
+use Rattle.sysreg.specs.declared.regs.Regime.TheVariants.{El1, El2, El3}
 use Rattle.system.specs.declared.decode.SysOp.{SysOp}
 use Rattle.system.specs.declared.decode.SysOp.TheVariants.{At, Tlbi, Zva, Nothing, Undefined, Unimplemented}
 

@@ -1,7 +1,7 @@
 -- Which level may use which system operation, a second time: tables in numbers that `theorems` promises, each row computed.
 use Rattle.std.specs.Prelude.{◌≡◌, Bool, true, false, List, [], ◌∷◌, ◌++◌, ℕ, zero, suc, ◌+◌, ◌*◌, ◌/◌, ◌%◌, ◌^◌}
-use Rattle.walk.specs.declared.regime.Regime.{Regime}
-use Rattle.walk.specs.declared.regime.Regime.TheVariants.{El1, El2, El3}
+use Rattle.sysreg.specs.declared.regs.Regime.{Regime}
+use Rattle.sysreg.specs.declared.regs.Regime.TheVariants.{El1, El2, El3}
 use Rattle.system.specs.declared.decode.SysOp.{SysOp}
 use Rattle.system.specs.declared.decode.SysOp.TheVariants.{At, Tlbi, Zva, Nothing, Undefined, Unimplemented}
 use Rattle.system.specs.Decode.{decode_of}

@@ -3,7 +3,8 @@
 use Rattle.std.specs.Prelude.{if◌then◌else◌, ◌≡◌, Bool, true, false, not, ◌||◌, ℕ, ◌+◌, ◌*◌, ◌^◌, Option, Ok, Err}
 use Rattle.word.specs.Bits.{bit_on, field, flag}
 use Rattle.sysreg.specs.declared.regs.Control.{Control}
-use Rattle.walk.specs.Regime.{bank_of, non_secure, single_priv, wxn_of}
+use Rattle.walk.specs.Regime.{bank_of, non_secure, wxn_of}
+use Rattle.sysreg.specs.Regs.{single_priv}
 use Rattle.walk.specs.Descriptor.{attr_indx, ns, sh}
 use Rattle.walk.specs.Table.{Translation, Result, mapped, faults, status_of}
 use Rattle.walk.specs.Permission.{Access, reading, writing, allowed}
@@ -11,8 +12,9 @@ use Rattle.walk.specs.Flat.{flat_by}
 use Rattle.walk.specs.Fresh.{fresh_of}
 use Rattle.walk.specs.Tag.{untagged}
 use Rattle.walk.specs.Walk.{walk_of}
-use Rattle.walk.specs.declared.{regime.Regime.Regime, regime.Bank.Bank, level.Leaf.Leaf, fresh.Fresh.Fresh}
-use Rattle.walk.specs.declared.regime.Regime.TheVariants.{El1, El2, El3}
+use Rattle.walk.specs.declared.{regime.Bank.Bank, level.Leaf.Leaf, fresh.Fresh.Fresh}
+use Rattle.sysreg.specs.declared.regs.Regime.{Regime}
+use Rattle.sysreg.specs.declared.regs.Regime.TheVariants.{El1, El2, El3}
 use Rattle.walk.specs.declared.fresh.Fresh.TheVariants.{Flat, Ended}
 use Rattle.tlb.specs.Access.{right_of, has_right}
 use Rattle.tlb.specs.declared.access.Kind.{Kind}

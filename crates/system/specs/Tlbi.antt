@@ -6,10 +6,9 @@ use Rattle.word.specs.Bits.{field}
 use Rattle.sysreg.specs.Regs.{control_at}
 use Rattle.sysreg.specs.Tcr.{tg0, tg1, «as»}
 use Rattle.sysreg.specs.declared.regs.Control.{Control}
-use Rattle.sysreg.specs.declared.regs.ControlReg.TheVariants.{Tcr}
-use Rattle.walk.specs.Regime.{own_level}
-use Rattle.walk.specs.declared.regime.Regime.{Regime}
-use Rattle.walk.specs.declared.regime.Regime.TheVariants.{El1, El2, El3}
+use Rattle.sysreg.specs.declared.regs.Register.TheVariants.{Tcr}
+use Rattle.sysreg.specs.declared.regs.Regime.{Regime}
+use Rattle.sysreg.specs.declared.regs.Regime.TheVariants.{El1, El2, El3}
 use Rattle.tlb.specs.declared.Inval.{Inval}
 use Rattle.tlb.specs.declared.Inval.TheVariants.{All, Page, Asid}
 
@@ -97,7 +96,7 @@ unfoldable pub scope_of : ℕ → ℕ → ℕ → Scope
 scope_of op1 crm op2 = scope (instruction_at instructions op1 crm op2)
 
 abbrev pub tcr_of : Control → Regime → ℕ
-tcr_of c r = control_at c (Tcr (own_level r))
+tcr_of c r = control_at c (Tcr r)
 
 -- pages of 4 KiB: TCR_ELx.TG0 is '00', and in the EL1&0 regime TCR_EL1.TG1 is '10'
 abbrev pub pages4k : ℕ → Regime → Bool

@@ -4,8 +4,8 @@ use Rattle.word.specs.Bits.{bit0}
 use Rattle.word.specs.Ram.{word_at, bytes_of}
 use Rattle.sysreg.specs.Regs.{levels}
 use Rattle.sysreg.specs.declared.regs.Control.{Control}
-use Rattle.walk.specs.declared.regime.Regime.{Regime}
-use Rattle.walk.specs.declared.regime.Regime.TheVariants.{El1, El2, El3}
+use Rattle.sysreg.specs.declared.regs.Regime.{Regime}
+use Rattle.sysreg.specs.declared.regs.Regime.TheVariants.{El1, El2, El3}
 use Rattle.system.specs.Par.{at_par, walk_par}
 use Rattle.system.specs.declared.decode.AtForm.{AtForm}
 

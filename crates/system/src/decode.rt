@@ -4,7 +4,7 @@ ghost use Rattle.word.specs.Bits.{bit0, bit_on};
 ghost use Rattle.system.specs.Decode.{decode_of};
 ghost use Rattle.system.specs.declared.decode.SysOp.TheVariants.{At};
 
-use walk::regime::Regime;
+use sysreg::regs::Regime;
 
 /// The fields of SYS op1, CRn, CRm, op2, Xt, each as the instruction holds it.
 #[derive(Clone, Copy)]

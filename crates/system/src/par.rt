@@ -1,33 +1,20 @@
 // PAR_EL1 after an AT. It walks afresh: no cache stands here.
 ghost use Rattle.std.specs.Prelude.{◌≡◌, ◌<◌, ◌≤◌};
 ghost use Rattle.word.specs.Ram.{word_at};
-ghost use Rattle.system.specs.Par.{kind_of, from_non_secure, success, abort, leaf_par, at_par};
+ghost use Rattle.system.specs.Par.{success, abort, leaf_par, at_par};
 
 use crate::decode::AtForm;
-use sysreg::regs::Control;
-use tlb::access;
-use tlb::access::Kind;
+use sysreg::regs::{Control, Regime, SCR_NS};
+use tlb::access::{self, Kind};
 use walk::fresh::Fresh;
+use walk::fsc::FSC_PERMISSION;
 use walk::level::Leaf;
-use walk::regime::{Bank, Regime};
+use walk::regime::Bank;
 
 // PA<47:12>, and bit 11, which is RES1.
 const PAR_PA: u64 = 0xFFFF_FFFF_F000;
 
 const PAR_RES1: u64 = 1 << 11;
-
-fn kind_of(write: bool) -> Kind
-    ensures { result ≡ kind_of write }
-{
-    if write { Kind::Write } else { Kind::Read }
-}
-
-// SCR_EL3.NS; EL3 is always Secure.
-fn from_non_secure(s: Bank, regime: Regime) -> bool
-    ensures { result ≡ from_non_secure s regime }
-{
-    regime != Regime::El3 && s.scr_el3 & 1 != 0
-}
 
 // A translation: ATTR<63:56>, PA<47:12>, NS<9>, SH<8:7>.
 #[tactic(auto, unfolding(crate::specs::Par::success), using(crate::proofs::Words::success_word))]
@@ -47,14 +34,14 @@ fn fault_par(fsc: u8) -> u64
 }
 
 // A leaf: its page and attributes, or a permission fault of its level.
-#[tactic(auto, unfolding(crate::specs::Par::leaf_par))]
+#[tactic(auto, unfolding(crate::specs::Par::leaf_par), using(crate::proofs::Words::permission_status))]
 fn leaf_par(mair: u64, ns: bool, form: AtForm, leaf: Leaf) -> u64
     requires { leaf.level ≤ 3 }
     ensures { result ≡ leaf_par mair ns form leaf }
 {
-    let right = access::right_of(kind_of(form.write), form.user);
-    if leaf.perms >> right & 1 == 0 {
-        return fault_par(12 + leaf.level);
+    let kind = if form.write { Kind::Write } else { Kind::Read };
+    if leaf.perms >> access::right_of(kind, form.user) & 1 == 0 {
+        return fault_par(FSC_PERMISSION | leaf.level);
     }
     let attr = mair >> (8 * (leaf.desc >> 2 & 7)) & 0xFF;
     let ns = ns || leaf.desc >> 5 & 1 != 0;
@@ -70,7 +57,8 @@ pub fn at(control: &Control, mair: u64, form: AtForm, va: u64, base: u64, ram: &
 {
     let regime = form.regime;
     let s = Bank::new(control, regime);
-    let ns = from_non_secure(s, regime);
+    // EL3 is always Secure
+    let ns = regime != Regime::El3 && s.scr_el3 & SCR_NS != 0;
     match s.fresh(regime, va, base, ram) {
         Fresh::Ended(Ok(leaf)) => leaf_par(mair, ns, form, leaf),
         Fresh::Ended(Err(fsc)) => fault_par(fsc),

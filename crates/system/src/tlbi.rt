@@ -3,9 +3,9 @@ ghost use Rattle.std.specs.Prelude.{◌≡◌};
 ghost use Rattle.system.specs.Tlbi.{ranged, asid_form, what_of, tlbi_of};
 
 use crate::decode::Encoding;
-use sysreg::regs::Control;
+use sysreg::regs::{Control, Regime};
 use tlb::Inval;
-use walk::regime::{Bank, Regime};
+use walk::regime::Bank;
 
 // By address: a page where the regime's pages are 4 KiB, by TG0 and in EL1&0 by TG1 too; else everything.
 #[tactic(auto, unfolding(crate::specs::Tlbi::what_of))]

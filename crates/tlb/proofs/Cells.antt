@@ -7,11 +7,12 @@ use borrow.Author.Tests.{eq-eqb, ne_eqb, eqb-true, eqb-false, leb-false, le-leb}
 use Rattle.std.proofs.Math.Dec.{eqb-suc-zero}
 use Rattle.std.proofs.lemmas.Nat.{or_shifted}
 use Rattle.fault.specs.First.{first}
-use Rattle.walk.specs.declared.regime.Regime.{Regime}
-use Rattle.walk.specs.declared.regime.Regime.TheVariants.{El1, El2, El3}
+use Rattle.sysreg.specs.declared.regs.Regime.{Regime}
+use Rattle.sysreg.specs.declared.regs.Regime.TheVariants.{El1, El2, El3}
 use Rattle.tlb.specs.Entry.{serves, untagged, span_of, page_dropped, asid_dropped}
 use Rattle.tlb.specs.Hint.{on_page, hint_key, hint_for, fetch_serves, fetch_for}
-use Rattle.tlb.specs.Access.{may_hint, regime_number, user_of, right_of, has_right, judged}
+use Rattle.tlb.specs.Access.{may_hint, user_of, right_of, has_right, judged}
+use Rattle.sysreg.specs.Regs.{index_of}
 use Rattle.tlb.specs.Model.{Slot, empty, holds, Line, reach_of, reaches, belongs_to, span_bits, covers, uncovered, same_regime, serving, knowing, Access}
 use Rattle.tlb.specs.Model.{as_user, need, need_in, judge, hintable}
 use Rattle.tlb.specs.Live.{line_in, tagged, line_of, hint_of, fetch_hint_of, Made}
@@ -51,7 +52,7 @@ both-parts m k v l pos h = go (k == v * m + l) refl
     go true e = let q : k ≡ v * m + l = eqb-true _ _ e in e ∙ sym (rw (eq-eqb _ _ (high q), eq-eqb _ _ (low q)))
     go false e = e ∙ sym (apart _ _ refl refl (eqb-false _ _ e))
 
-pub regime-low : (r : Regime) → regime_number r < 4
+pub regime-low : (r : Regime) → index_of r < 4
 regime-low El1 = omega arith
 regime-low El2 = omega arith
 regime-low El3 = omega arith
@@ -65,20 +66,20 @@ reach-is false n a = refl
 module _ (a p : ℕ) (e : Entry) where
   in-regime : (r s : Regime) (x : Bool)
       → if (x && same_regime s r) && reaches (reach_of e.global e.asid) a then holds (line_in s e) else empty
-      ≡ (if (x && regime_number s == regime_number r) && (e.global || e.asid == a) then holds (line_in r e) else empty)
+      ≡ (if (x && index_of s == index_of r) && (e.global || e.asid == a) then holds (line_in r e) else empty)
   in-regime El1 El1 x = rw reach-is
   in-regime El2 El2 x = rw reach-is
   in-regime El3 El3 x = rw reach-is
   in-regime r s x = rw and-false
 
-  no-regime : (r : Regime) (x y : Bool) → (x && 0 == regime_number r) && y ≡ false
+  no-regime : (r : Regime) (x y : Bool) → (x && 0 == index_of r) && y ≡ false
   no-regime El1 x y = rw and-false
   no-regime El2 x y = rw and-false
   no-regime El3 x y = rw and-false
 
   by-tag : (r : Regime) (n : ℕ) → e.tag % 4 ≡ n
       → serving a r p (tagged n e)
-      ≡ (if (e.tag / 4 == p && n == regime_number r) && (e.global || e.asid == a) then holds (line_in r e) else empty)
+      ≡ (if (e.tag / 4 == p && n == index_of r) && (e.global || e.asid == a) then holds (line_in r e) else empty)
   by-tag r zero q = rw no-regime
   by-tag r (suc zero) q = in-regime r El1 (e.tag / 4 == p)
   by-tag r (suc (suc zero)) q = in-regime r El2 (e.tag / 4 == p)
@@ -88,19 +89,19 @@ module _ (a p : ℕ) (e : Entry) where
 -- an entry serves a tag just where its line serves the page and the regime
 pub found : (t : Tlb) (r : Regime) (p : ℕ) (e : Entry)
     → serving t.asid r p (line_of t.generation e)
-    ≡ (if serves e t (p * 4 + regime_number r) then holds (line_in r e) else empty)
+    ≡ (if serves e t (p * 4 + index_of r) then holds (line_in r e) else empty)
 unfolding line_of
-found t r p e = rw (both-parts 4 e.tag p (regime_number r) (omega arith) (regime-low r)) (go (e.generation == t.generation) refl)
+found t r p e = rw (both-parts 4 e.tag p (index_of r) (omega arith) (regime-low r)) (go (e.generation == t.generation) refl)
   where
     go : (b : Bool) → (e.generation == t.generation) ≡ b
         → serving t.asid r p (if e.generation == t.generation then tagged (e.tag % 4) e else empty)
-        ≡ (if ((e.tag / 4 == p && e.tag % 4 == regime_number r) && e.generation == t.generation) && (e.global || e.asid == t.asid) then holds (line_in r e)
+        ≡ (if ((e.tag / 4 == p && e.tag % 4 == index_of r) && e.generation == t.generation) && (e.global || e.asid == t.asid) then holds (line_in r e)
         else empty)
     go true f = rw (f, and-true) (by-tag t.asid p e r (e.tag % 4) refl)
     go false f = rw (f, and-false)
 
 -- an entry of the present generation with a regime's tag is a line
-pub line_made : (g p : ℕ) (r : Regime) (e : Entry) → e.generation ≡ g → e.tag ≡ p * 4 + regime_number r
+pub line_made : (g p : ℕ) (r : Regime) (e : Entry) → e.generation ≡ g → e.tag ≡ p * 4 + index_of r
     → line_of g e ≡ holds (line_in r e)
 unfolding line_of
 line_made g p El1 e q t = let n : e.tag % 4 ≡ 1 = omega arith in rw (eq-eqb _ _ q, n)

@@ -5,7 +5,7 @@ use Rattle.std.proofs.Common.{sym, ◌∙◌, arith, length-set}
 use borrow.Author.Tests.{eqb-true, eqb-false}
 use Rattle.std.proofs.lemmas.List.{length-map}
 use Rattle.std.proofs.Math.ListN.{length-replicate, get_or-map}
-use Rattle.walk.specs.declared.regime.Regime.{Regime}
+use Rattle.sysreg.specs.declared.regs.Regime.{Regime}
 use Rattle.tlb.specs.Entry.{blank, slot_of, serves, stamped, untagged, named, page_dropped, walked_for, asid_dropped}
 use Rattle.tlb.specs.Hint.{no_hint}
 use Rattle.tlb.specs.Lists.{Each}
@@ -13,7 +13,7 @@ use Rattle.tlb.proofs.Lists.{each_map, each-imp, each_set, each-getD, each-repli
 use Rattle.tlb.specs.Count.{more, no_tally, no_tallies}
 use Rattle.tlb.specs.Tlb.{blanks, no_hints, fresh, entry_at, hintless, next_generation, get_of, put_of, flush_of, drop_page_of, drop_asid_of}
 use Rattle.tlb.specs.Tlb.{retag_of, invalidate_of, same_inval, pending_after, broadcast_of}
-use Rattle.tlb.specs.Access.{regime_number}
+use Rattle.sysreg.specs.Regs.{index_of}
 use Rattle.tlb.specs.Model.{Slot, empty, holds, Line, empty_model, uncovered, invalidate, retag, equal, joined, broadcast, serving, line_for, keep}
 use Rattle.tlb.specs.Live.{line_in, line_of, hint_of, fetch_hint_of, pending_of, lines_of, hints_of, counters_of, live, Made, Aligned, FetchAligned, WellFormed}
 use Rattle.tlb.proofs.Cells.{if-ap, same-pick, regime-low, found, line_made, page-drops, asid-drops, all-covered, flush-drops}
@@ -276,10 +276,10 @@ broadcast-sound t what s =
 -- LINES
 
 -- the slot of a tag is that of its page
-pub slot_is : (r : Regime) (p : ℕ) → slot_of (p * 4 + regime_number r) ≡ p % 1024
+pub slot_is : (r : Regime) (p : ℕ) → slot_of (p * 4 + index_of r) ≡ p % 1024
 slot_is r p = omega (arith, regime-low r)
 
-pub page-is : (r : Regime) (p : ℕ) → (p * 4 + regime_number r) / 4 ≡ p
+pub page-is : (r : Regime) (p : ℕ) → (p * 4 + index_of r) / 4 ≡ p
 page-is r p = omega (arith, regime-low r)
 
 -- what a look-up in a regime found, as a line
@@ -289,23 +289,23 @@ found_in r None = empty
 
 pub line-is : (t : Tlb) (r : Regime) (p : ℕ)
     → line_for (live t) r p
-    ≡ (if serves (entry_at t (slot_of (p * 4 + regime_number r))) t (p * 4 + regime_number r) then holds (line_in r (entry_at t (slot_of (p * 4 + regime_number r))))
+    ≡ (if serves (entry_at t (slot_of (p * 4 + index_of r))) t (p * 4 + index_of r) then holds (line_in r (entry_at t (slot_of (p * 4 + index_of r))))
     else empty)
 unfolding line_for lines_of
 line-is t r p =
     ap (λ (i : ℕ). serving t.asid r p (line_of t.generation (slice_index_or t.entries i blank)))
     (sym (slot_is r p))
-    ∙ found t r p (entry_at t (slot_of (p * 4 + regime_number r)))
+    ∙ found t r p (entry_at t (slot_of (p * 4 + index_of r)))
 
-pub get-live : (t : Tlb) (r : Regime) (p : ℕ) → found_in r (get_of t (p * 4 + regime_number r)) ≡ line_for (live t) r p
+pub get-live : (t : Tlb) (r : Regime) (p : ℕ) → found_in r (get_of t (p * 4 + index_of r)) ≡ line_for (live t) r p
 unfolding get_of
 get-live t r p =
-    let e = entry_at t (slot_of (p * 4 + regime_number r)) in
-    if-ap (found_in r) (serves e t (p * 4 + regime_number r)) (Some e) None ∙ sym (line-is t r p)
+    let e = entry_at t (slot_of (p * 4 + index_of r)) in
+    if-ap (found_in r) (serves e t (p * 4 + index_of r)) (Some e) None ∙ sym (line-is t r p)
 
 -- an entry of a regime's page, put into its slot in the present generation
 pub kept-lines : (g p : ℕ) (r : Regime) (es : List Entry) (e : Entry) → length es ≡ 1024 → e.generation ≡ g
-    → e.tag ≡ p * 4 + regime_number r → (i : ℕ)
+    → e.tag ≡ p * 4 + index_of r → (i : ℕ)
     → lines_of g (slice_set es (slot_of e.tag) e) i ≡ (if i == e.tag / 4 % 1024 then holds (line_in r e) else lines_of g es i)
 unfolding lines_of
 kept-lines g p r es e long q w i =
@@ -314,7 +314,7 @@ kept-lines g p r es e long q w i =
     ∙ ap (λ (l : Slot Line). (if i == slot_of e.tag then l else line_of g (slice_index_or es i blank))) (line_made g p r e q w)
 
 module _ (t : Tlb) (s : WellFormed t) (r : Regime) (p : ℕ) (e : Entry) where
-  pub put-live : e.tag ≡ p * 4 + regime_number r → live (put_of t e) ≡ keep (line_in r e) (live t)
+  pub put-live : e.tag ≡ p * 4 + index_of r → live (put_of t e) ≡ keep (line_in r e) (live t)
   unfolding put_of keep
   put-live w =
       λ n.

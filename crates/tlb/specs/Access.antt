@@ -2,8 +2,9 @@
 use Rattle.std.specs.Prelude.{if◌then◌else◌, ℕ, ◌+◌, ◌*◌, ◌/◌, ◌%◌, ◌^◌, Bool, true, false, not, ◌&&◌, ◌||◌, ◌==◌, bit_or, Option, Some, None, Result, Ok, Err, eqb}
 use Rattle.fault.specs.First.{first}
 use Rattle.walk.specs.Flat.{flat_by}
-use Rattle.walk.specs.declared.regime.Regime.{Regime}
-use Rattle.walk.specs.declared.regime.Regime.TheVariants.{El1, El2, El3}
+use Rattle.sysreg.specs.Regs.{index_of}
+use Rattle.sysreg.specs.declared.regs.Regime.{Regime}
+use Rattle.sysreg.specs.declared.regs.Regime.TheVariants.{El1, El2, El3}
 use Rattle.tlb.specs.Hint.{on_page}
 use Rattle.tlb.specs.declared.{entry.Entry.Entry, access.Kind.Kind, access.NoSuchKind.NoSuchKind, access.Privilege.Privilege}
 use Rattle.tlb.specs.Answers.{Answer}
@@ -26,11 +27,6 @@ is_fetch kind = false
 abbrev pub may_hint : Privilege → Kind → Bool
 may_hint privilege kind = not (is_fetch kind) && not privilege.unprivileged
 
-abbrev pub regime_number : Regime → ℕ
-regime_number El1 = 1
-regime_number El2 = 2
-regime_number El3 = 3
-
 -- in regime 1 alone: at EL0, or under the mark unless it is a fetch
 abbrev pub user_of : Regime → Privilege → Kind → Bool
 user_of El1 privilege kind = privilege.level == 0 || (privilege.unprivileged && not (is_fetch kind))
@@ -38,7 +34,7 @@ user_of r privilege kind = false
 
 -- the untagged page times 4 plus the regime
 abbrev pub tag_of : Regime → ℕ → ℕ
-tag_of r va = va / 4096 * 4 + regime_number r
+tag_of r va = va / 4096 * 4 + index_of r
 
 -- the bit that the access needs: read 0, write 1, fetch 2; the privileged rights stand three higher
 abbrev pub own_rights : Bool → ℕ

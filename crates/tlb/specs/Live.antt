@@ -1,7 +1,8 @@
 -- The plain model that a cache stands for, and the caches that the operations make and keep.
 use Rattle.std.specs.Prelude.{if◌then◌else◌, ◌≡◌, ℕ, zero, suc, ◌/◌, ◌%◌, ◌^◌, ◌<◌, ◌≤◌, List, length, ◌==◌, nat_le, Option, Some, None, slice_index_or, Ok}
-use Rattle.walk.specs.declared.{regime.Regime.Regime, level.Leaf.Leaf}
-use Rattle.walk.specs.declared.regime.Regime.TheVariants.{El1, El2, El3}
+use Rattle.walk.specs.declared.{level.Leaf.Leaf}
+use Rattle.sysreg.specs.declared.regs.Regime.{Regime}
+use Rattle.sysreg.specs.declared.regs.Regime.TheVariants.{El1, El2, El3}
 use Rattle.tlb.specs.Entry.{blank}
 use Rattle.tlb.specs.Hint.{no_hint}
 use Rattle.tlb.specs.Count.{tally_at}

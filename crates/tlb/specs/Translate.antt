@@ -2,7 +2,8 @@
 use Rattle.std.specs.Prelude.{if◌then◌else◌, ℕ, Option, Some, None, slice_set, Ok, Err}
 use Rattle.fault.specs.First.{first}
 use Rattle.walk.specs.Answers.{Walked}
-use Rattle.walk.specs.Regime.{stage1_on, regime_of}
+use Rattle.walk.specs.Regime.{stage1_on}
+use Rattle.sysreg.specs.Regs.{regime_of}
 use Rattle.walk.specs.Tag.{untagged}
 use Rattle.walk.specs.Walk.{walk_of}
 use Rattle.walk.specs.declared.regime.Bank.{Bank}

@@ -1,8 +1,8 @@
 -- Worked runs, in numbers: what is seen of a list of operations on a new cache and on the empty plain model, the same rows of both. Where a
 -- definition is wrong, the cache's rows are others, computed.
 use Rattle.std.specs.Prelude.{◌≡◌, ℕ, Bool, true, false, List, [], ◌∷◌, map, filter, Ok, Err}
-use Rattle.walk.specs.declared.regime.Regime.{Regime}
-use Rattle.walk.specs.declared.regime.Regime.TheVariants.{El1, El2, El3}
+use Rattle.sysreg.specs.declared.regs.Regime.{Regime}
+use Rattle.sysreg.specs.declared.regs.Regime.TheVariants.{El1, El2, El3}
 use Rattle.tlb.specs.Model.{Slot, empty, holds, Access, empty_model}
 use Rattle.tlb.specs.Tlb.{fresh}
 use Rattle.tlb.specs.Runs.{Op, invalidates, retags, broadcasts, translates, fetches, Seen, run, model_run}

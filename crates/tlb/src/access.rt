@@ -7,7 +7,10 @@ use crate::hint;
 use fault::Fault;
 use walk::flat::flat_of;
 use walk::fsc::FSC_ADDR_SIZE;
-use walk::regime::{Bank, Regime};
+use sysreg::regs::Regime;
+use walk::fsc::FSC_PERMISSION;
+use walk::regime::Bank;
+use walk::rights::PRIV;
 
 /// What an access wants.
 #[derive(Clone, Copy, PartialEq, Eq)]
@@ -40,11 +43,7 @@ impl From<Kind> for u64 {
     ghost from_gives = { λ kind number. number ≡ kind_number kind };
 
     fn from(kind: Kind) -> u64 {
-        match kind {
-            Kind::Read => 1,
-            Kind::Write => 2,
-            Kind::Fetch => 4,
-        }
+        kind as u64
     }
 }
 
@@ -68,12 +67,7 @@ pub struct Request {
 pub fn tag_of(regime: Regime, va: u64) -> u64
     ensures { result ≡ tag_of regime va }
 {
-    let number = match regime {
-        Regime::El1 => 1,
-        Regime::El2 => 2,
-        Regime::El3 => 3,
-    };
-    (va >> 12) << 2 | number
+    (va >> 12) << 2 | regime as u64
 }
 
 /// The answer to an untagged address with stage 1 off: itself, or an address size fault of level 0.
@@ -91,7 +85,8 @@ impl Privilege {
         kind != Kind::Fetch && !self.unprivileged
     }
 
-    /// Whether the access is judged by EL0's rights: in the EL1&0 regime EL0's own, and data accesses that count as its.
+    /// Whether the access is judged by EL0's rights: in the EL1&0 regime EL0's own, and data accesses that count as
+    /// EL0's.
     pub fn is_user(self, regime: Regime, kind: Kind) -> bool
         ensures { result ≡ user_of regime self kind }
     {
@@ -99,23 +94,12 @@ impl Privilege {
     }
 }
 
-// The rights of the regime's own level stand above EL0's.
-const PRIV: u8 = 3;
-
-// With the table level in bits 0 and 1.
-const FSC_PERMISSION: u8 = 0x0C;
-
 /// The bit among an entry's rights that the access needs.
-pub fn right_of(kind: Kind, user: bool) -> u8
+pub fn right_of(kind: Kind, user: bool) -> u32
     ensures value { result ≡ right_of kind user }
     ensures upper_bound { result ≤ 5 }
 {
-    let place = match kind {
-        Kind::Read => 0,
-        Kind::Write => 1,
-        Kind::Fetch => 2,
-    };
-    place + if user { 0 } else { PRIV }
+    (kind as u32 >> 1) + if user { 0 } else { PRIV }
 }
 
 impl Entry {

@@ -9,7 +9,7 @@ use crate::access::{self, Kind, Privilege, Request};
 use crate::entry::Entry;
 use crate::hint::{self, Hint};
 use fault::Fault;
-use walk::regime::Regime;
+use sysreg::regs::Regime;
 
 impl Tlb {
     /// Where the data hint sends an access, if one serves.

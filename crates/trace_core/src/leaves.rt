@@ -4,10 +4,10 @@ use cpu::call::Reply;
 use exception::enter;
 use exception::kind::Exception;
 use sysreg::encoding;
-use sysreg::regs::{ControlReg, El, Register, SysReg};
+use sysreg::regs::{Regime, Register};
 use trace_text::answer::Answer;
 use trace_text::line::Leaf;
-use walk::regime::{Bank, Regime};
+use walk::regime::Bank;
 use walk::{range, rights};
 
 fn value(value: u64) -> Answer {
@@ -25,41 +25,28 @@ fn walk_of(bank: Bank, r: Regime, va: u64, base: u64, ram: &[u8]) -> Answer {
 }
 
 // A register's number, and its level.
-fn numbered(number: u64, el: El) -> Answer {
-    Answer::Pair(number, el.index() as u64)
-}
-
-fn control_number(r: ControlReg) -> Answer {
-    match r {
-        ControlReg::Sctlr(el) => numbered(0, el),
-        ControlReg::Tcr(el) => numbered(1, el),
-        ControlReg::Ttbr0(el) => numbered(2, el),
-        ControlReg::Ttbr1 => Answer::Pair(3, 1),
-        ControlReg::Scr => Answer::Pair(10, 3),
-        ControlReg::Hcr => Answer::Pair(11, 2),
-    }
+fn numbered(number: u64, r: Regime) -> Answer {
+    Answer::Pair(number, u64::from(r))
 }
 
 // PAR_EL1 is no banked register.
-fn sys_number(r: SysReg) -> Answer {
-    match r {
-        SysReg::Mair(el) => numbered(4, el),
-        SysReg::Vbar(el) => numbered(5, el),
-        SysReg::Elr(el) => numbered(6, el),
-        SysReg::Spsr(el) => numbered(7, el),
-        SysReg::Esr(el) => numbered(8, el),
-        SysReg::Far(el) => numbered(9, el),
-        SysReg::Vpidr => Answer::Pair(12, 2),
-        SysReg::Vmpidr => Answer::Pair(13, 2),
-        SysReg::Par => Answer::Reply(Reply::Faults),
-    }
-}
-
 fn bank(key: u32) -> Answer {
     match encoding::banked(key) {
-        Some(Register::InControl(r)) => control_number(r),
-        Some(Register::InSys(r)) => sys_number(r),
-        None => Answer::Reply(Reply::Faults),
+        Some(Register::Sctlr(r)) => numbered(0, r),
+        Some(Register::Tcr(r)) => numbered(1, r),
+        Some(Register::Ttbr0(r)) => numbered(2, r),
+        Some(Register::Ttbr1) => Answer::Pair(3, 1),
+        Some(Register::Mair(r)) => numbered(4, r),
+        Some(Register::Vbar(r)) => numbered(5, r),
+        Some(Register::Elr(r)) => numbered(6, r),
+        Some(Register::Spsr(r)) => numbered(7, r),
+        Some(Register::Esr(r)) => numbered(8, r),
+        Some(Register::Far(r)) => numbered(9, r),
+        Some(Register::Scr) => Answer::Pair(10, 3),
+        Some(Register::Hcr) => Answer::Pair(11, 2),
+        Some(Register::Vpidr) => Answer::Pair(12, 2),
+        Some(Register::Vmpidr) => Answer::Pair(13, 2),
+        Some(Register::Par) | None => Answer::Reply(Reply::Faults),
     }
 }
 

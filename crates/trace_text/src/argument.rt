@@ -2,7 +2,7 @@
 use crate::lex;
 use crate::reason::Reason;
 use tlb::access::Kind;
-use walk::regime::Regime;
+use sysreg::regs::Regime;
 
 /// What a word of a line is read as.
 pub trait Argument {

@@ -2,7 +2,7 @@
 use cpu::call::Call;
 use exception::kind::Exception;
 use system::decode::Encoding;
-use walk::regime::Regime;
+use sysreg::regs::Regime;
 
 #[derive(Clone, Copy)]
 pub enum Line {

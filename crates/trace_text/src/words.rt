@@ -2,7 +2,7 @@
 use crate::line::{Leaf, Line, Operation, Poke, Setup};
 use call_words::op;
 use call_words::op::{DecodedCall, DecodedException};
-use walk::regime::Regime;
+use sysreg::regs::Regime;
 
 fn regime(word: u64) -> Option<Regime> {
     Regime::try_from(word).ok()

@@ -6,8 +6,10 @@ use Rattle.word.specs.Bits.{flag}
 use Rattle.fault.specs.First.{first as status-of}
 use Rattle.fault.specs.declared.Fault.{Fault}
 use Rattle.walk.specs.WalkBounds.{SoundFresh}
-use Rattle.walk.specs.Regime.{bank_of, regime_of}
-use Rattle.walk.specs.declared.{regime.Regime.Regime, regime.Bank.Bank, level.Leaf.Leaf, fresh.Fresh.Fresh}
+use Rattle.walk.specs.Regime.{bank_of}
+use Rattle.sysreg.specs.Regs.{regime_of}
+use Rattle.walk.specs.declared.{regime.Bank.Bank, level.Leaf.Leaf, fresh.Fresh.Fresh}
+use Rattle.sysreg.specs.declared.regs.Regime.{Regime}
 use Rattle.walk.specs.declared.fresh.Fresh.TheVariants.{Flat, Ended}
 use Rattle.census.specs.Tally.{how_many, many-same}
 use Rattle.census.specs.Count.{page_at, census_at}

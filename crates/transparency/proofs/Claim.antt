@@ -3,7 +3,8 @@
 use Rattle.std.specs.Prelude.{◌≡◌, refl, Bool, true, false, not, ◌&&◌, List, [], ◌∷◌, ◌++◌, ◌⊎◌, ℕ, ◌/◌, ◌%◌, ◌^◌, ◌==◌, None, Ok}
 use Rattle.std.proofs.Common.{sym, ap, subst, ◌∙◌, arith, append-nil, eqb-true, true≢false}
 use Rattle.std.proofs.lemmas.Bool.{eqb-false}
-use Rattle.walk.specs.declared.{regime.Regime.Regime, level.Leaf.Leaf}
+use Rattle.walk.specs.declared.{level.Leaf.Leaf}
+use Rattle.sysreg.specs.declared.regs.Regime.{Regime}
 use Rattle.tlb.specs.Asks.{Ask, Given, kind_of, address_of}
 use Rattle.tlb.specs.Lists.{Each}
 use Rattle.tlb.proofs.Lists.{each-imp}

@@ -9,15 +9,14 @@ use Rattle.sysreg.specs.Encoding.{banked_at, register_at}
 use Rattle.sysreg.specs.Write.{control_with, sys_with, write_reg}
 use Rattle.sysreg.specs.Shape.{same_shape, asid_base, asid_of}
 use Rattle.sysreg.specs.declared.regs.Control.{Control}
-use Rattle.sysreg.specs.declared.regs.ControlReg.TheVariants as Control
-use Rattle.sysreg.specs.declared.regs.El.TheVariants as El
+use Rattle.sysreg.specs.declared.regs.Register.TheVariants.{Sctlr, Tcr, Ttbr0}
+use Rattle.sysreg.specs.declared.regs.Regime.TheVariants.{El1, El2, El3}
 use Rattle.walk.specs.Answers.{Walked}
 use Rattle.walk.specs.Tag.{untagged}
 use Rattle.walk.specs.Size.{pa_size}
 use Rattle.walk.specs.Table.{range_of, params_of, table_next, leaf_permissions, leaf_translation, leaf_result, level_next, descaddr, lookup_next, walk_from, walk_range}
 use Rattle.walk.specs.Table.{table_walk}
 use Rattle.walk.specs.Walk.{walk_of}
-use Rattle.walk.specs.declared.regime.Regime.TheVariants.{El1}
 use Rattle.walk.specs.declared.level.Leaf.{Leaf}
 use Rattle.tlb.specs.Maintenance.{invalidated_of, reshaped_of, retagged_of}
 use Rattle.tlb.specs.Lists.{Each}
@@ -66,13 +65,13 @@ block oa desc = record { oa = oa; desc = desc; perms = 0x3C; level = 1; global =
 
 -- the registers after each write
 abbrev first : Control
-first = control_with fresh_control (Control.Tcr El.El1) 0x80000019
+first = control_with fresh_control (Tcr El1) 0x80000019
 
 abbrev second : Control
-second = control_with first (Control.Ttbr0 El.El1) 0x1000
+second = control_with first (Ttbr0 El1) 0x1000
 
 abbrev registers : Control
-registers = control_with second (Control.Sctlr El.El1) 1
+registers = control_with second (Sctlr El1) 1
 
 abbrev reads : Ram → Event real
 reads m = steps m (asking (translates Read 0x40001234 ∷ []))

@@ -11,10 +11,12 @@ use Rattle.fault.specs.First.{first}
 use Rattle.sysreg.specs.Shape.{same_shape, asid_of}
 use Rattle.sysreg.specs.declared.regs.Control.{Control}
 use Rattle.walk.specs.Answers.{Walked}
-use Rattle.walk.specs.Regime.{regime_of, bank_of, stage1_on}
+use Rattle.walk.specs.Regime.{bank_of, stage1_on}
+use Rattle.sysreg.specs.Regs.{regime_of}
 use Rattle.walk.specs.Tag.{untagged}
 use Rattle.walk.specs.Walk.{walk_of}
-use Rattle.walk.specs.declared.{regime.Regime.Regime, level.Leaf.Leaf}
+use Rattle.walk.specs.declared.{level.Leaf.Leaf}
+use Rattle.sysreg.specs.declared.regs.Regime.{Regime}
 use Rattle.tlb.specs.Access.{flat_answer}
 use Rattle.tlb.specs.Answers.{Answer}
 use Rattle.tlb.specs.Asks.{Ask, translates, fetches, Given, kind_of, address_of, answers}

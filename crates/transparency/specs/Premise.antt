@@ -1,7 +1,7 @@
 -- The claim's premise is that of the theory of histories (history/specs/History.antt): the two say it in other words, and
 -- of the same pages.
 use Rattle.std.specs.Prelude.{◌≡◌, List, [], ◌∷◌, ◌++◌, ℕ}
-use Rattle.walk.specs.declared.regime.Regime.{Regime}
+use Rattle.sysreg.specs.declared.regs.Regime.{Regime}
 use Rattle.cpu.specs.Bare.{fresh_bare}
 use Rattle.cpu.specs.Core.{fresh_core}
 use Rattle.history.specs.Calls.{Fed, events_run}

@@ -10,7 +10,8 @@ use Rattle.walk.specs.Table.{Result, faults, address_size, translation, in_range
 use Rattle.walk.specs.Table.{first_lookup, range_of, params_of, descaddr, lookup_next, on_next, walk_from, walk_range, table_walk}
 use Rattle.walk.specs.Walk.{walk_of}
 use Rattle.walk.proofs.SizeLaws.{level-count}
-use Rattle.walk.specs.declared.{regime.Regime.Regime, regime.Bank.Bank, range.Range.Range, level.Params.Params}
+use Rattle.walk.specs.declared.{regime.Bank.Bank, range.Range.Range, level.Params.Params}
+use Rattle.sysreg.specs.declared.regs.Regime.{Regime}
 use Rattle.walk.specs.Fetches.{after_next, fetches_from, fetches_range, fetches_of, Agree, none, one}
 
 -- that is, at each of its members

@@ -6,8 +6,8 @@ use Rattle.word.specs.Bits.{field, align_down}
 use Rattle.walk.specs.Tag.{tbi, sign_extend56, tag_dropped, untagged}
 use Rattle.walk.specs.Flat.{flat_of, flat_by}
 use Rattle.walk.proofs.TagLaws.{untagged-page, untagged-offset}
-use Rattle.walk.specs.declared.regime.Regime.{Regime}
-use Rattle.walk.specs.declared.regime.Regime.TheVariants.{El1, El2, El3}
+use Rattle.sysreg.specs.declared.regs.Regime.{Regime}
+use Rattle.sysreg.specs.declared.regs.Regime.TheVariants.{El1, El2, El3}
 
 -- an untagged address below 2^44 is its own, and no other has one
 pub flat-below : (u : ℕ) → u < 2 ^ 44 → flat_by u ≡ Some u

@@ -10,7 +10,8 @@ use Rattle.walk.specs.Fresh.{flat_end, fresh_of}
 use Rattle.walk.specs.Table.{address_size}
 use Rattle.walk.specs.WalkBounds.{LeafBounds, SoundWalked, SoundEnd, SoundFresh}
 use Rattle.walk.proofs.WalkBounds.{walk-sound}
-use Rattle.walk.specs.declared.{regime.Regime.Regime, regime.Bank.Bank, level.Leaf.Leaf, fresh.Fresh.Fresh}
+use Rattle.walk.specs.declared.{regime.Bank.Bank, level.Leaf.Leaf, fresh.Fresh.Fresh}
+use Rattle.sysreg.specs.declared.regs.Regime.{Regime}
 use Rattle.walk.specs.declared.fresh.Fresh.TheVariants.{Ended}
 use Rattle.walk.specs.Answers.{Walked}
 

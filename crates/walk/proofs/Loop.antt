@@ -7,12 +7,13 @@ use Prim.Native.Nat.{ℕ, suc, ◌-◌, ◌≤◌, ◌<◌, ◌%◌, ◌^◌}
 use native.Mathlib.Omega.{arith}
 use Rattle.word.specs.Bits.{align_down}
 use Rattle.word.proofs.BitLaws.{align-le}
-use Rattle.walk.specs.Table.{Lookup, Result, Next, deeper, ends, lookup_next}
+use Rattle.walk.specs.Table.{Lookup, Next, deeper, ends, lookup_next}
 use Rattle.walk.specs.Table.{walk_from, walk_range, table_walk, range_of, params_of, first_lookup, startlevel, inputsize, in_range, beyond, addrselectbottom}
 use Rattle.walk.specs.Table.{startlevel_of, baselowerbound}
 use Rattle.walk.specs.Walk.{walked_of, walk_of}
 use Rattle.walk.specs.State.{lookup_of, onward, answers, stepped, meant, Standing, Onwards, Leads, next, found, fault, begin_of}
-use Rattle.walk.specs.declared.{regime.Regime.Regime, regime.Bank.Bank, range.Range.Range}
+use Rattle.walk.specs.declared.{regime.Bank.Bank, range.Range.Range}
+use Rattle.sysreg.specs.declared.regs.Regime.{Regime}
 use Rattle.walk.specs.declared.{level.Params.Params, level.WalkState.WalkState, level.Leaf.Leaf}
 use Rattle.walk.specs.declared.level.Step.{Step}
 use Rattle.walk.specs.declared.level.Step.TheVariants.{Next as Onward, Leaf as Found, Fault}
@@ -54,37 +55,35 @@ module _ (memory : ℕ → Option ℕ) (p : Params) (w : WalkState) (va : ℕ) (
       let h = (leads-on p w v s ld n).stands.level in
       omega arith
 
-  pub goes_on : (v : WalkState) (r : Result) → s ≡ Onward v → walk_from (4 - w.level) memory p va (lookup_of p w) ≡ r
-      → walk_from (4 - v.level) memory p va (lookup_of p v) ≡ r
+  -- what is left to walk from here
+  abbrev Left : WalkState → Walked → Type 0
+  Left u a = walked_of p.singlepriv p.wxn (walk_from (4 - u.level) memory p va (lookup_of p u)) ≡ a
+
+  pub goes_on : (v : WalkState) (a : Walked) → s ≡ Onward v → Left w a → Left v a
   unfolding walk_from
-  goes_on v r n h =
+  goes_on v a n h =
       let l = (leads-on p w v s ld n).level in
       let b = (leads-on p w v s ld n).stands.level in
       let k : 4 - w.level ≡ suc (4 - v.level) = omega arith in
       let d = is-deeper p (lookup_of p v) (lookup_next memory p va (lookup_of p w)) (rw n at es) in
       rw (k, walk_from, d) at h
 
-  done-right : (a : Walked) (r : Result) → stepped p s ≡ answers a → Standing p w → walk_from (4 - w.level) memory p va (lookup_of p w) ≡ r
-      → a ≡ walked_of p.singlepriv p.wxn r
+  done-right : (x a : Walked) → stepped p s ≡ answers x → Standing p w → Left w a → x ≡ a
   unfolding walk_from
-  done-right a r n st h = go (lookup_next memory p va (lookup_of p w)) refl
+  done-right x a n st h = go (lookup_next memory p va (lookup_of p w)) refl
     where
       k : 4 - w.level ≡ suc (3 - w.level)
       k = omega (arith, st.level)
 
-      go : (x : Next) → lookup_next memory p va (lookup_of p w) ≡ x → a ≡ walked_of p.singlepriv p.wxn r
-      go (deeper l) e = absurd (apart l a (sym (rw (n, e) at es)))
-      go (ends q) e =
-          let h' : q ≡ r = rw (k, walk_from, e) at h in
-          answers-inj _ _ (rw (n, e, h') at es)
+      go : (y : Next) → lookup_next memory p va (lookup_of p w) ≡ y → x ≡ a
+      go (deeper l) e = absurd (apart l x (sym (rw (n, e) at es)))
+      go (ends q) e = answers-inj _ _ (rw (n, e) at es) ∙ (rw (k, walk_from, e) at h)
 
-  pub leaf-right : (leaf : Leaf) (r : Result) → s ≡ Found leaf → Standing p w → walk_from (4 - w.level) memory p va (lookup_of p w) ≡ r
-      → Ok leaf ≡ walked_of p.singlepriv p.wxn r
-  leaf-right leaf r n = done-right (Ok leaf) r (ap (stepped p) n)
+  pub leaf-right : (leaf : Leaf) (a : Walked) → s ≡ Found leaf → Standing p w → Left w a → Ok leaf ≡ a
+  leaf-right leaf a n = done-right (Ok leaf) a (ap (stepped p) n)
 
-  pub fault-right : (status : ℕ) (r : Result) → s ≡ Fault status → Standing p w → walk_from (4 - w.level) memory p va (lookup_of p w) ≡ r
-      → Err status ≡ walked_of p.singlepriv p.wxn r
-  fault-right status r n = done-right (Err status) r (ap (stepped p) n)
+  pub fault-right : (status : ℕ) (a : Walked) → s ≡ Fault status → Standing p w → Left w a → Err status ≡ a
+  fault-right status a n = done-right (Err status) a (ap (stepped p) n)
 
 -- where a walk begins it stands, and what it stands for is the manual's first table
 pub at-inj : (w v : WalkState) → ◌≡◌ {A = Begin} (Ok w) (Ok v) → w ≡ v
@@ -161,9 +160,9 @@ module _ (s : Bank) (r : Regime) (va : ℕ) (memory : ℕ → Option ℕ) (g : R
   standing : (w : WalkState) → x ≡ Ok w → Standing p w
   standing w n = (begun w _ _ refl refl (sym ex ∙ n)).0
 
-  pub walks_from : (w : WalkState) (a : Walked) → x ≡ Ok w → a ≡ walked_of p.singlepriv p.wxn (walk_from (4 - w.level) memory p va (lookup_of p w))
-      → a ≡ walk_of s r va memory
-  walks_from w a n e = e ∙ ap (walked_of p.singlepriv p.wxn) (sym (begun w _ _ refl refl (sym ex ∙ n)).1) ∙ walked
+  pub walk_begun : (w : WalkState) → x ≡ Ok w
+      → walked_of p.singlepriv p.wxn (walk_from (4 - w.level) memory p va (lookup_of p w)) ≡ walk_of s r va memory
+  walk_begun w n = ap (walked_of p.singlepriv p.wxn) (sym (begun w _ _ refl refl (sym ex ∙ n)).1) ∙ walked
 
   pub walk_refused : (n : ℕ) → x ≡ Err n → Err n ≡ walk_of s r va memory
   walk_refused n e = refused n _ _ refl refl (sym ex ∙ e) ∙ walked
@@ -173,6 +172,4 @@ pub begins-standing : (s : Bank) (r : Regime) (va : ℕ) (g : Range) (p : Params
     → p ≡ params_of s r g → x ≡ begin_of g p.outputsize va → x ≡ Ok w → Standing p w
 begins-standing s r va g p x w eg ep ex n = standing s r va (λ _. None) g p x eg ep ex w n
 
-pub ruleset walk_steps = (falls, stands, goes_on, leaf-right, fault-right)
-
-pub ruleset walk_ends = (begins-standing, walks_from, walk_refused)
+pub ruleset walk_steps = (begins-standing, walk_begun, walk_refused, falls, stands, goes_on, leaf-right, fault-right)

@@ -4,7 +4,8 @@ use Rattle.std.proofs.Common.{sym, ap, ap₂, ◌∙◌, subst, arith}
 use Rattle.word.specs.Bits.{bit_on, field, align_down}
 use Rattle.word.proofs.BitLaws.{cut_field}
 use Rattle.word.specs.Places.{bits}
-use Rattle.walk.specs.Regime.{single_priv, wxn_of}
+use Rattle.walk.specs.Regime.{wxn_of}
+use Rattle.sysreg.specs.Regs.{single_priv}
 use Rattle.walk.specs.Descriptor.{valid, table_or_page, af, not_global}
 use Rattle.walk.specs.Table.{address_size, translation, access_flag, external_abort, Result, mapped, faults, firstblocklevel, grainsize, startlevel, startlevel_of, inputsize}
 use Rattle.walk.specs.Table.{addrselectbottom, in_range, beyond, outputaddress, Lookup, Next, deeper, ends, first_lookup, range_of, params_of}
@@ -12,7 +13,8 @@ use Rattle.walk.specs.Table.{table_next, leaf_translation, leaf_result, level_ne
 use Rattle.walk.specs.Walk.{walked_of, walk_of}
 use Rattle.walk.specs.Answers.{Walked}
 use Rattle.walk.specs.Numbers.{StartsAt, LeafMaps, TableMaps, FirstMaps, EachLeaf}
-use Rattle.walk.specs.declared.{regime.Regime.Regime, regime.Bank.Bank, range.Range.Range}
+use Rattle.walk.specs.declared.{regime.Bank.Bank, range.Range.Range}
+use Rattle.sysreg.specs.declared.regs.Regime.{Regime}
 use Rattle.walk.specs.declared.{level.Params.Params, level.Leaf.Leaf}
 
 -- WHAT A WALK ANSWERS

@@ -8,7 +8,8 @@ use native.Mathlib.Omega.{arith}
 use borrow.Author.Tests.{eqb-true, eqb-false, ltb-true, ltb-false, eq-eqb, ne_eqb, lt-ltb, le-ltb}
 use Rattle.std.proofs.Math.Arith.{lt_of_le-ne}
 use Rattle.std.proofs.Math.Dec.{eqb}
-use Rattle.walk.specs.Regime.{single_priv, wxn_of}
+use Rattle.walk.specs.Regime.{wxn_of}
+use Rattle.sysreg.specs.Regs.{single_priv}
 use Rattle.walk.specs.Descriptor.{valid, table_or_page, af}
 use Rattle.walk.specs.Table.{Result, mapped, faults, address_size, translation, access_flag, external_abort, firstblocklevel, in_range, beyond, Lookup, Next}
 use Rattle.walk.specs.Table.{deeper, ends, first_lookup, range_of, params_of, table_next, leaf_translation, leaf_result, level_next, descaddr, lookup_next}
@@ -17,7 +18,8 @@ use Rattle.walk.specs.Walk.{leaf_of, walked_of, walk_of}
 use Rattle.walk.proofs.SizeLaws.{pa-size-low, pa-size-high, start-level}
 use Rattle.walk.proofs.WalkBounds.{next_level}
 use Rattle.walk.specs.Fetches.{fetches_range, fetches_of}
-use Rattle.walk.specs.declared.{regime.Regime.Regime, regime.Bank.Bank, level.Params.Params}
+use Rattle.walk.specs.declared.{regime.Bank.Bank, level.Params.Params}
+use Rattle.sysreg.specs.declared.regs.Regime.{Regime}
 use Rattle.walk.specs.Order.{TableAt, table, LeafAt, page, block, NoLeafAt, last, early, Kind, is_invalid, is_table, is_no_leaf, is_leaf, params_at, Reached, entry, onward, Below}
 
 not_last : (n : ℕ) → n < 3 → eqb n 3 ≡ false

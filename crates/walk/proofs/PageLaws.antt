@@ -7,7 +7,8 @@ use mathlib.Core.List.{List, ◌∷◌}
 use Prim.Native.Nat.{ℕ, zero, suc, ◌+◌, ◌-◌, ◌/◌, ◌%◌, ◌^◌, ◌≤◌}
 use Rattle.word.specs.Bits.{align_down}
 use Rattle.word.proofs.BitLaws.{same_above, join-above}
-use Rattle.walk.specs.Regime.{single_priv, wxn_of}
+use Rattle.walk.specs.Regime.{wxn_of}
+use Rattle.sysreg.specs.Regs.{single_priv}
 use Rattle.walk.specs.Descriptor.{valid, table_or_page, af}
 use Rattle.walk.specs.Table.{Translation, Result, mapped, faults, address_size, translation, access_flag, external_abort, firstblocklevel, inputsize}
 use Rattle.walk.specs.Table.{in_range, startlevel, addrselectbottom, beyond, outputaddress, Lookup, Next, deeper, ends, first_lookup, range_of, params_of}
@@ -17,9 +18,10 @@ use Rattle.walk.proofs.SizeLaws.{input-low, index-above-page}
 use Rattle.walk.specs.WalkBounds.{SoundWalked}
 use Rattle.walk.proofs.WalkBounds.{walk-sound}
 use Rattle.walk.specs.Fetches.{after_next, fetches_from, fetches_range, fetches_of}
-use Rattle.walk.specs.declared.{regime.Regime.Regime, regime.Bank.Bank, range.Range.Range, level.Params.Params}
+use Rattle.walk.specs.declared.{regime.Bank.Bank, range.Range.Range, level.Params.Params}
+use Rattle.sysreg.specs.declared.regs.Regime.{Regime}
 use Rattle.walk.specs.declared.level.Leaf.{Leaf}
-use Rattle.walk.specs.declared.regime.Regime.TheVariants.{El1, El2, El3}
+use Rattle.sysreg.specs.declared.regs.Regime.TheVariants.{El1, El2, El3}
 use Rattle.walk.specs.PageLaws.{with_address, paged_leaf, paged, leaf_at}
 use Rattle.walk.specs.Answers.{Walked}
 

@@ -5,8 +5,8 @@ use Rattle.std.proofs.Math.Nat.{zero-div}
 use Rattle.word.specs.Bits.{bit_on, wrap}
 use Rattle.word.proofs.BitLaws.{same_above}
 use Rattle.walk.specs.Tag.{tbi, sign_extend56, tag_dropped, untagged}
-use Rattle.walk.specs.declared.regime.Regime.{Regime}
-use Rattle.walk.specs.declared.regime.Regime.TheVariants.{El1, El2, El3}
+use Rattle.sysreg.specs.declared.regs.Regime.{Regime}
+use Rattle.sysreg.specs.declared.regs.Regime.TheVariants.{El1, El2, El3}
 
 -- a byte of ones has eight bits set, and a byte of zeros none
 byte-bit : (b i : ℕ) → b < 2 → i < 8 → b * 255 / 2 ^ i % 2 ≡ b

@@ -8,7 +8,8 @@ use native.Mathlib.Omega.{arith}
 use Rattle.walk.specs.Table.{Lookup, Next, deeper, ends, descaddr, lookup_next, range_of, params_of, first_lookup, in_range, beyond}
 use Rattle.walk.specs.State.{lookup_of, answers, stepped, meant, begin_of}
 use Rattle.walk.specs.Visits.{Seen, seen, past, visit_from, visit_of, seen_as}
-use Rattle.walk.specs.declared.{regime.Regime.Regime, regime.Bank.Bank, range.Range.Range}
+use Rattle.walk.specs.declared.{regime.Bank.Bank, range.Range.Range}
+use Rattle.sysreg.specs.declared.regs.Regime.{Regime}
 use Rattle.walk.specs.declared.{level.Params.Params, level.WalkState.WalkState, level.Leaf.Leaf}
 use Rattle.walk.specs.declared.level.Step.{Step}
 use Rattle.walk.specs.declared.level.Step.TheVariants.{Next as Onward, Leaf as Found, Fault}

@@ -10,14 +10,16 @@ use Rattle.std.proofs.lemmas.Bool.{eqb-false}
 use Rattle.std.proofs.Math.Arith.{lt_of_le-ne}
 use Rattle.std.proofs.Math.Dec.{eqb, ltb}
 use Rattle.word.proofs.BitLaws.{join-below}
-use Rattle.walk.specs.Regime.{single_priv, wxn_of}
+use Rattle.walk.specs.Regime.{wxn_of}
+use Rattle.sysreg.specs.Regs.{single_priv}
 use Rattle.walk.specs.Descriptor.{valid, table_or_page, af}
 use Rattle.walk.specs.Table.{address_size, translation, access_flag, external_abort, Result, mapped, faults, firstblocklevel}
 use Rattle.walk.specs.Table.{startlevel, addrselectbottom, in_range, beyond, Lookup, Next, deeper, ends, first_lookup, range_of, params_of}
 use Rattle.walk.specs.Table.{table_next, leaf_translation, leaf_result, level_next, descaddr, on_word, lookup_next, on_next, walk_from, walk_range, table_walk}
 use Rattle.walk.specs.Walk.{walked_of, walk_of}
 use Rattle.walk.proofs.SizeLaws.{pa-size-low, pa-size-high, start-level, block-level, block_size, index-above-page}
-use Rattle.walk.specs.declared.{regime.Regime.Regime, regime.Bank.Bank, range.Range.Range}
+use Rattle.walk.specs.declared.{regime.Bank.Bank, range.Range.Range}
+use Rattle.sysreg.specs.declared.regs.Regime.{Regime}
 use Rattle.walk.specs.declared.{level.Params.Params, level.Leaf.Leaf}
 use Rattle.walk.specs.WalkBounds.{Status, LeafBounds, Found, Sound, SoundWalked}
 use Rattle.std.proofs.Common.{eqb-true, lit≤, pow_pos, mod-lt}

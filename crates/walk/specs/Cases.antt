@@ -5,7 +5,7 @@ use Rattle.word.specs.Ram.{word_at, bytes_of}
 use Rattle.walk.specs.Tag.{untagged}
 use Rattle.walk.specs.Permission.{Access, reading, fetching, kind_bit, first_bit}
 use Rattle.walk.specs.Walk.{walk_of}
-use Rattle.walk.specs.declared.regime.Regime.TheVariants.{El1}
+use Rattle.sysreg.specs.declared.regs.Regime.TheVariants.{El1}
 use Rattle.walk.specs.declared.regime.Bank.{Bank}
 use Rattle.walk.specs.Answers.{Walked}
 

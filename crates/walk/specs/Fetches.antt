@@ -1,7 +1,8 @@
 -- The descriptors that a walk fetches. A walk sees of memory only these, and there are few (proofs/FetchLaws.antt).
 use Rattle.std.specs.Prelude.{◌≡◌, ℕ, zero, suc, ◌-◌, List, [], ◌∷◌, Option}
 use Rattle.walk.specs.Table.{startlevel, entered, Lookup, Next, deeper, ends, first_lookup, range_of, params_of, descaddr, lookup_next}
-use Rattle.walk.specs.declared.{regime.Regime.Regime, regime.Bank.Bank, range.Range.Range, level.Params.Params}
+use Rattle.walk.specs.declared.{regime.Bank.Bank, range.Range.Range, level.Params.Params}
+use Rattle.sysreg.specs.declared.regs.Regime.{Regime}
 
 abbrev pub after_next : Next → (Lookup → List ℕ) → List ℕ
 after_next (deeper l) k = k l

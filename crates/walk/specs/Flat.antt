@@ -4,7 +4,7 @@ use Rattle.std.specs.Prelude.{if◌then◌else◌, ◌==◌, nat_lt, ℕ, ◌+�
 use Rattle.word.specs.Bits.{field}
 use Rattle.walk.specs.Tag.{tbi}
 use Rattle.walk.specs.Size.{pa_max}
-use Rattle.walk.specs.declared.regime.Regime.{Regime}
+use Rattle.sysreg.specs.declared.regs.Regime.{Regime}
 
 -- the highest bit of an address that is no tag
 abbrev pub addr_top : ℕ → Regime → ℕ → ℕ

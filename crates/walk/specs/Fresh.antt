@@ -5,7 +5,8 @@ use Rattle.walk.specs.Regime.{stage1_on}
 use Rattle.walk.specs.Tag.{untagged}
 use Rattle.walk.specs.Walk.{walk_of}
 use Rattle.walk.specs.Flat.{flat_by}
-use Rattle.walk.specs.declared.{regime.Regime.Regime, regime.Bank.Bank, fresh.Fresh.Fresh}
+use Rattle.walk.specs.declared.{regime.Bank.Bank, fresh.Fresh.Fresh}
+use Rattle.sysreg.specs.declared.regs.Regime.{Regime}
 use Rattle.walk.specs.declared.fresh.Fresh.TheVariants.{Flat, Ended}
 
 -- an untagged address with stage 1 off: itself, or an address size fault of level 0

@@ -6,7 +6,8 @@ use Rattle.sysreg.specs.declared.regs.Control.{Control}
 use Rattle.walk.specs.Permission.{permission_byte}
 use Rattle.walk.specs.Table.{startlevel_of, inputsize, Lookup, deeper, first_lookup, range_of, level_next, leaf_permissions, descaddr}
 use Rattle.walk.specs.Walk.{walk_of}
-use Rattle.walk.specs.declared.{regime.Regime.Regime, regime.Bank.Bank, range.Range.Range}
+use Rattle.walk.specs.declared.{regime.Bank.Bank, range.Range.Range}
+use Rattle.sysreg.specs.declared.regs.Regime.{Regime}
 use Rattle.walk.specs.declared.{level.Params.Params, level.Leaf.Leaf}
 
 -- with so many bits of input, from low to high, a walk begins at the level; by whether the granule is 64 KiB

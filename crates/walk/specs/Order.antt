@@ -4,13 +4,15 @@
 use Rattle.std.specs.Prelude.{◌≡◌, List, Option, Some, Ok}
 use Rattle.std.proofs.Math.Bool.{true, false}
 use Prim.Native.Nat.{ℕ, ◌+◌, ◌≤◌, ◌<◌}
-use Rattle.walk.specs.Regime.{single_priv, wxn_of}
+use Rattle.walk.specs.Regime.{wxn_of}
+use Rattle.sysreg.specs.Regs.{single_priv}
 use Rattle.walk.specs.Descriptor.{valid, table_or_page, af}
 use Rattle.walk.specs.Table.{firstblocklevel, in_range, beyond, Lookup}
 use Rattle.walk.specs.Table.{deeper, first_lookup, range_of, params_of, leaf_translation, descaddr, lookup_next}
 use Rattle.walk.specs.Walk.{leaf_of, walk_of}
 use Rattle.walk.specs.Fetches.{fetches_of}
-use Rattle.walk.specs.declared.{regime.Regime.Regime, regime.Bank.Bank, range.Range.Range, level.Params.Params}
+use Rattle.walk.specs.declared.{regime.Bank.Bank, range.Range.Range, level.Params.Params}
+use Rattle.sysreg.specs.declared.regs.Regime.{Regime}
 use Rattle.walk.specs.Answers.{Walked}
 
 -- what a descriptor is at a level: a table, a page or block, or a leaf where there can be none

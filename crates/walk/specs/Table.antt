@@ -8,11 +8,13 @@ use Rattle.word.specs.Bits.{bit_on, field, align_down}
 use Rattle.sysreg.specs.Tcr.{t0sz, epd0, tg0, t1sz, epd1, tg1, ips, ps}
 use Rattle.walk.specs.Descriptor.{valid, table_or_page, ap1, ap2, af, not_global, pxn, uxn, pxn_table, uxn_table, ap_table0, ap_table1}
 use Rattle.walk.specs.Permission.{under_ap_table, under_xn_table}
-use Rattle.walk.specs.Regime.{single_priv, wxn_of}
+use Rattle.walk.specs.Regime.{wxn_of}
+use Rattle.sysreg.specs.Regs.{single_priv}
 use Rattle.walk.specs.Size.{pa_size}
-use Rattle.walk.specs.declared.{regime.Regime.Regime, regime.Bank.Bank, range.Range.Range}
+use Rattle.walk.specs.declared.{regime.Bank.Bank, range.Range.Range}
+use Rattle.sysreg.specs.declared.regs.Regime.{Regime}
 use Rattle.walk.specs.declared.{rights.Permissions.Permissions, level.Params.Params}
-use Rattle.walk.specs.declared.regime.Regime.TheVariants.{El1, El2, El3}
+use Rattle.sysreg.specs.declared.regs.Regime.TheVariants.{El1, El2, El3}
 
 -- how a walk ends short of a leaf, with the level
 pub data Fault : Type 0 where

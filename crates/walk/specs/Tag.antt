@@ -5,8 +5,8 @@ use Rattle.std.specs.Prelude.{if◌then◌else◌, Bool, ℕ, ◌+◌, ◌-◌, 
 use Rattle.word.specs.Bits.{bit_on}
 use Rattle.sysreg.specs.Tcr as fields
 use Rattle.sysreg.specs.Tcr.{tbi0, tbi1}
-use Rattle.walk.specs.declared.regime.Regime.{Regime}
-use Rattle.walk.specs.declared.regime.Regime.TheVariants.{El1, El2, El3}
+use Rattle.sysreg.specs.declared.regs.Regime.{Regime}
+use Rattle.sysreg.specs.declared.regs.Regime.TheVariants.{El1, El2, El3}
 
 -- TCR_EL1.TBI0 for the lower range, TCR_EL1.TBI1 for the upper one, of fetches too; TCR_ELx.TBI in EL2 and EL3
 abbrev pub tbi : ℕ → Regime → ℕ → Bool

@@ -2,7 +2,8 @@
 use Rattle.std.specs.Prelude.{ℕ, zero, suc, Option, Some, None}
 use Rattle.walk.specs.Table.{Lookup, Next, deeper, ends, first_lookup, entered, range_of, params_of, descaddr, lookup_next}
 use Rattle.walk.specs.State.{StepEnd, lookup_of, stepped, meant}
-use Rattle.walk.specs.declared.{regime.Regime.Regime, regime.Bank.Bank, level.Params.Params}
+use Rattle.walk.specs.declared.{regime.Bank.Bank, level.Params.Params}
+use Rattle.sysreg.specs.declared.regs.Regime.{Regime}
 use Rattle.walk.specs.Answers.{Visited}
 
 -- a table read, or that the walk ended before

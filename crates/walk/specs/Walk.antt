@@ -1,9 +1,11 @@
 -- The walk as the code's own types hold it: what is left of `Table`'s result once the permission byte of `Permission` stands for the attributes.
 use Rattle.std.specs.Prelude.{Bool, not, ℕ, Option, Ok, Err}
-use Rattle.walk.specs.Regime.{single_priv, wxn_of}
+use Rattle.walk.specs.Regime.{wxn_of}
+use Rattle.sysreg.specs.Regs.{single_priv}
 use Rattle.walk.specs.Table.{Translation, Result, mapped, faults, status_of, table_walk}
 use Rattle.walk.specs.Permission.{permission_byte}
-use Rattle.walk.specs.declared.{regime.Regime.Regime, regime.Bank.Bank, level.Leaf.Leaf}
+use Rattle.walk.specs.declared.{regime.Bank.Bank, level.Leaf.Leaf}
+use Rattle.sysreg.specs.declared.regs.Regime.{Regime}
 use Rattle.walk.specs.Answers.{Walked}
 
 -- a leaf keeps the output address, the permission byte, the level, whether it holds for every ASID, and its descriptor. M1 (docs/DIFFERENCES.md): in

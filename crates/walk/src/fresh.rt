@@ -6,7 +6,8 @@ ghost use Rattle.walk.specs.Fresh.{fresh_of};
 use crate::flat;
 use crate::fsc::FSC_ADDR_SIZE;
 use crate::level::Walked;
-use crate::regime::{Bank, Regime};
+use crate::regime::Bank;
+use sysreg::regs::Regime;
 
 /// A physical address, or as its walk ends. With stage 1 off an address that is too large ends in a fault of level 0.
 #[derive(Clone, Copy)]

@@ -1,5 +1,5 @@
-// Fault status codes as DFSC, IFSC and PAR_EL1.FST have them (DDI 0487, ESR_ELx). All but FSC_EXTERNAL take the level in
-// bits 1:0.
+// Fault status codes as DFSC, IFSC and PAR_EL1.FST have them (DDI 0487, ESR_ELx). All but FSC_EXTERNAL take the level
+// in bits 1:0.
 
 /// Address size fault: a table, its base or an output address lies beyond the output size.
 pub const FSC_ADDR_SIZE: u8 = 0x00;

@@ -6,10 +6,9 @@ ghost use Rattle.walk.specs.State.{begin_of};
 
 use crate::fsc::{FSC_ADDR_SIZE, FSC_TRANSLATION};
 use crate::level::{Params, WalkState};
-use crate::regime::{Bank, Regime};
+use crate::regime::Bank;
 use crate::{descriptor, level};
-
-const SCTLR_WXN: u64 = 1 << 19;
+use sysreg::regs::{Regime, SCTLR_WXN};
 
 /// The fields of TCR and TTBR for the range that an address lies in.
 #[derive(Clone, Copy)]

@@ -1,27 +1,9 @@
-// The translation regimes, their registers, and what of an address a walk sees.
-ghost use Rattle.std.specs.Prelude.{◌≡◌, ◌<◌};
-ghost use Rattle.sysreg.specs.Regs.{level_of};
-ghost use Rattle.walk.specs.Regime.{bank_of, number_of, own_level, regime_at, regime_of, single_priv, stage1_on};
+// The registers of one translation regime, and what of an address a walk sees.
+ghost use Rattle.std.specs.Prelude.{◌≡◌};
+ghost use Rattle.walk.specs.Regime.{bank_of, stage1_on};
 ghost use Rattle.walk.specs.Tag.{untagged};
 
-use sysreg::regs::Control;
-
-/// `SCR_EL3` bits that stage 1 reads.
-const SCR_NS: u64 = 1 << 0;
-/// `HCR_EL2` bits that stage 1 reads.
-const HCR_DC: u64 = 1 << 12;
-
-const HCR_TGE: u64 = 1 << 27;
-/// `SCTLR_ELx.M`: stage 1 translation on.
-const SCTLR_M: u64 = 1 << 0;
-
-/// EL1&0, EL2 and EL3.
-#[derive(Clone, Copy, PartialEq, Eq)]
-pub enum Regime {
-    El1 = 1,
-    El2,
-    El3,
-}
+use sysreg::regs::{Control, HCR_DC, HCR_TGE, Regime, SCR_NS, SCTLR_M};
 
 /// The registers that translation in one regime reads: its own SCTLR, TCR and TTBR0, and those that all share.
 #[derive(Clone, Copy)]
@@ -32,61 +14,6 @@ pub struct Bank {
     pub ttbr1_el1: u64,
     pub scr_el3: u64,
     pub hcr_el2: u64,
-}
-
-/// A number other than 1, 2 and 3, which name a regime.
-#[derive(Clone, Copy, Debug)]
-pub struct NoSuchRegime(pub u64);
-
-impl TryFrom<u64> for Regime {
-    type Error = NoSuchRegime;
-
-    ghost try_from_gives = { λ number regime. regime ≡ regime_at number };
-
-    fn try_from(number: u64) -> Result<Regime, NoSuchRegime> {
-        match number {
-            1 => Ok(Regime::El1),
-            2 => Ok(Regime::El2),
-            3 => Ok(Regime::El3),
-            _ => Err(NoSuchRegime(number)),
-        }
-    }
-}
-
-impl From<Regime> for u64 {
-    ghost from_gives = { λ regime number. number ≡ number_of regime };
-
-    fn from(regime: Regime) -> u64 {
-        regime.index() as u64
-    }
-}
-
-impl Regime {
-    /// The regime of an exception level.
-    pub fn of_level(level: u8) -> Self
-        ensures { result ≡ regime_of level }
-    {
-        match level {
-            2 => Regime::El2,
-            3 => Regime::El3,
-            _ => Regime::El1,
-        }
-    }
-
-    /// Whether the regime has one privilege level and one range of addresses.
-    pub fn is_single(self) -> bool
-        ensures { result ≡ single_priv self }
-    {
-        self != Regime::El1
-    }
-
-    // The place of the regime's own registers.
-    pub fn index(self) -> usize
-        ensures value { result ≡ level_of (own_level self) }
-        ensures upper_bound { result < 4 }
-    {
-        self as usize
-    }
 }
 
 impl Bank {

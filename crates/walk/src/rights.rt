@@ -3,8 +3,8 @@ ghost use Rattle.std.specs.Prelude.{◌≡◌, ◌+◌, ◌≤◌};
 ghost use Rattle.word.specs.Bits.{flag};
 ghost use Rattle.walk.specs.Permission.{permission_byte};
 
-// How far the rights of the regime's own level stand above those of EL0.
-const PRIV: u32 = 3;
+/// How far the rights of the regime's own level stand above those of EL0.
+pub const PRIV: u32 = 3;
 
 /// The attributes of a leaf that decide permission, as the tables above it leave them.
 #[derive(Clone, Copy)]
@@ -13,8 +13,9 @@ pub struct Permissions {
     pub ap2: bool,
     /// AP<1>: EL0 may read.
     pub ap1: bool,
-    /// UXN, or XN.
+    /// UXN, or XN: EL0, or EL2 or EL3, may not execute.
     pub xn: bool,
+    /// PXN: EL1 may not execute.
     pub pxn: bool,
 }
 
@@ -27,8 +28,8 @@ pub fn perm_bits(r: bool, w: bool, x: bool) -> u8
 }
 
 impl Permissions {
-    /// The rights that a leaf gives: EL0's in bits 0 to 2, the regime's own in bits 3 to 5. ARMv8.0: EL0 may execute what
-    /// it cannot read, and EL1 not what EL0 may write.
+    /// The rights that a leaf gives: EL0's in bits 0 to 2, the regime's own in bits 3 to 5. ARMv8.0: EL0 may execute
+    /// what it cannot read, and EL1 not what EL0 may write.
     pub fn byte(self, singlepriv: bool, wxn: bool) -> u8
         ensures { result ≡ permission_byte singlepriv wxn self }
     {

@@ -7,7 +7,7 @@ use std::fmt;
 use tlb::access::Kind;
 use tlb::entry::Entry;
 use walk::level::Walked;
-use walk::regime::Regime;
+use sysreg::regs::Regime;
 
 /// What an access is told.
 #[derive(Clone, Copy, PartialEq, Eq)]

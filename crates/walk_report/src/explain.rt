@@ -7,7 +7,7 @@ use std::io::Write;
 use tlb::access::Kind;
 use tlb::count;
 use tlb::count::Tally;
-use walk::regime::Regime;
+use sysreg::regs::Regime;
 
 fn kind_name(kind: Kind) -> &'static str {
     match kind {

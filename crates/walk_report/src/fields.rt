@@ -1,6 +1,6 @@
 // Bits, rights and fault statuses, as numbers, letters and words.
 use std::fmt;
-use walk::regime::Regime;
+use sysreg::regs::Regime;
 
 /// A bit of a word.
 pub fn bit(word: u64, n: u64) -> u64 {

@@ -2,7 +2,8 @@
 use crate::fields::bit;
 use std::io;
 use std::io::Write;
-use walk::regime::{Bank, Regime};
+use sysreg::regs::Regime;
+use walk::regime::Bank;
 
 fn granule(large: bool) -> &'static str {
     if large { "64K" } else { "4K" }

@@ -1,6 +1,7 @@
 use Rattle.std.proofs.Common.{◌≡◌, ◌<◌, ◌^◌, ℕ, Bool, List, length, true, Some, sym, ap, ◌∙◌, arith}
 use Rattle.word.specs.Ram.{bytes_in}
-use Rattle.walk.specs.Regime.{regime_of, stage1_on}
+use Rattle.walk.specs.Regime.{stage1_on}
+use Rattle.sysreg.specs.Regs.{regime_of}
 use Rattle.tlb.specs.Translate.{hint_in}
 use Rattle.tlb.specs.declared.access.Kind.TheVariants.{Write}
 use Rattle.cpu.specs.Core.{bank_now}

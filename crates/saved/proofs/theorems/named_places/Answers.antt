@@ -1,11 +1,8 @@
-use Rattle.saved.proofs.Named.{controls, systems, generals, parts, hints, entries, tallies}
+use Rattle.saved.proofs.Named.{registers, generals, parts, hints, entries, tallies}
 use Rattle.saved.proofs.theorems.named_places.Goals as goal
 
-pub returns-clause-controls : goal.returns-clause-controls
-returns-clause-controls c = controls
-
-pub returns-clause-systems : goal.returns-clause-systems
-returns-clause-systems c = systems
+pub returns-clause-registers : goal.returns-clause-registers
+returns-clause-registers c = registers
 
 pub returns-clause-generals : goal.returns-clause-generals
 returns-clause-generals c = generals
