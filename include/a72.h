@@ -230,7 +230,9 @@ static inline uint8_t a72_status(uint64_t number) { return (uint8_t)(number - A7
 
 /* ---- The calls ---- */
 
-/* The physical address of `va` for an access of this kind at the present level, in *ans. A fault is at `va`. */
+/* The physical address of `va` for an access of this kind at the present level, in *ans. A fault is at `va`. With
+ * stage 1 off: `va` without its tag where TBI drops that, and from 2^44 on status 0x00. An access is then judged by
+ * its first byte, and its bytes lie from there on. */
 uint64_t a72_translate(a72_core *core, uint64_t va, uint64_t kind, uint64_t *ans, uint64_t base,
                        const uint8_t *ram, size_t len);
 
@@ -278,7 +280,7 @@ uint64_t a72_abort(a72_core *core, const uint64_t exception[4]);
 
 /* How pages are mapped now: `pages` pages of 4 KiB, at most A72_MOST_PAGES, from that in which `first` lies; the
  * last may end at 2^64. Each is walked afresh by its own address in the regime of the present level, and counted
- * at one place: A72_COUNT_FLAT where stage 1 is off, A72_COUNT_STATUS plus the status of a fault, or
+ * at one place: A72_COUNT_FLAT where stage 1 is off and it is below 2^44, A72_COUNT_STATUS plus the status of a fault, or
  * A72_COUNT_RIGHTS plus the permissions of the page (as in an entry). So the counts add up to `pages`. With
  * A72_DONE all are written, otherwise none. Neither core nor RAM changes, and the cache is not asked. */
 uint64_t a72_census(a72_core *core, uint64_t first, uint64_t pages, uint64_t counts[A72_COUNTS],

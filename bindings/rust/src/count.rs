@@ -7,7 +7,7 @@ pub const COUNTS: usize = 129;
 pub const STATUS: usize = 0;
 /// The pages that are mapped, by permission byte: 64 counts.
 pub const RIGHTS: usize = 64;
-/// The pages with stage 1 off.
+/// The pages with stage 1 off, below 2^44.
 pub const FLAT: usize = 128;
 
 /// The most pages that a census takes.

@@ -42,8 +42,9 @@ fn every_page_is_counted_once() {
     assert_eq!((most.total(), most.mapped()), (MOST_PAGES, 3));
     assert!(core == before);
     core.set_level(3).unwrap();
-    let flat = core.census(&ram, u64::MAX, 1).unwrap();
+    let flat = core.census(&ram, (1 << 44) - 1, 1).unwrap();
     assert_eq!(flat, counted(&[], &[], 1));
+    assert_eq!(core.census(&ram, u64::MAX, 1), Ok(counted(&[(0, 1)], &[], 0)));
     assert_eq!(flat.allowing(Rights::PRIVILEGED_READ), 0);
 }
 

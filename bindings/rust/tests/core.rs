@@ -36,6 +36,8 @@ fn flat_while_stage_1_is_off() {
     let mut core = Core::new();
     assert_eq!(core.translate(&ram, 0x1234, Access::Fetch), Ok(0x1234));
     assert_eq!(core.data_pa(&ram, BASE), Ok(Some(BASE)));
+    assert_eq!(core.data_pa(&ram, (1 << 44) - 1), Ok(Some((1 << 44) - 1)));
+    assert_eq!(core.data_pa(&ram, 1 << 44), Ok(None));
     assert_eq!(core.load(&ram, BASE + 0x1000, Width::Word), Ok(0x4000_2003));
 }
 

@@ -2,8 +2,8 @@
 -- DC ZVA leaves 64 zero bytes at the translation of the aligned address and every other byte as it was. The laws are
 -- the core's, of cores that are well-formed; `read_of`, `write_of`, `ram_after_write`, `sys_of` and `sys_ram` are what
 -- `step_of` and `ram_after` make of a call that misses no check.
-use Rattle.std.specs.Prelude.{◌≡◌, refl, false, List, [], ◌∷◌, ◌++◌, ℕ, ◌+◌, ◌^◌, ◌≤◌, ◌<◌}
-use Rattle.std.proofs.Common.{sym, ap, ◌∙◌}
+use Rattle.std.specs.Prelude.{◌≡◌, refl, false, List, [], ◌∷◌, ◌++◌, ℕ, ◌+◌, ◌^◌, ◌≤◌, ◌<◌, Ok}
+use Rattle.std.proofs.Common.{sym, ap, ◌∙◌, arith}
 use borrow.Author.Tests.{le-ltb}
 use Rattle.std.proofs.Math.ListN.{length}
 use Rattle.walk.proofs.TagLaws.{untagged-plus}

@@ -5,9 +5,9 @@ use cpu::Core;
 use std::io;
 use std::io::Write;
 use tlb::access::Kind;
-use tlb::count;
 use tlb::count::Tally;
 use sysreg::regs::Regime;
+use tlb::{access, count};
 
 fn kind_name(kind: Kind) -> &'static str {
     match kind {
@@ -41,6 +41,17 @@ fn source(on: bool, before: Tally, after: Tally) -> &'static str {
         "by an entry of the cache"
     } else {
         "by a hint"
+    }
+}
+
+// What stage 1 makes of an address while it is off, by whether it fits and whether it had no tag to drop.
+fn flat_meaning(fits: bool, whole: bool) -> &'static str {
+    if !fits {
+        "address size fault, level 0 (bits from 44 up are not zero)"
+    } else if whole {
+        "the address is the physical address"
+    } else {
+        "the address without its tag is the physical address"
     }
 }
 
@@ -78,17 +89,22 @@ pub fn explain<W: Write>(
     writeln!(out, ": the regime is {}", regime_name(regime))?;
     registers::show(out, bank, regime)?;
     let on = bank.stage1_on(regime);
+    let page = bank.untag(regime, va);
+    if page != va {
+        writeln!(out, "untagged   {page:016x}")?;
+    }
     let now = if on {
-        let page = bank.untag(regime, va);
-        if page != va {
-            writeln!(out, "untagged   {page:016x}")?;
-        }
         let steps = levels::walk(bank, regime, page, base, ram);
         write!(out, "{steps}")?;
         Told::of_walk(core, steps.answer, regime, kind, va)
     } else {
-        writeln!(out, "stage 1 is off: the address is the physical address")?;
-        Told::Address(va)
+        let flat = access::flat(page);
+        writeln!(
+            out,
+            "stage 1 is off: {}",
+            flat_meaning(flat.is_ok(), page == va)
+        )?;
+        Told::from(flat)
     };
     writeln!(out, "walk now   {now}")?;
     let before = counters(core);

@@ -1,5 +1,6 @@
 //! What the programs share: arguments, usage, and the choice of a core. Exit status 0 is success, 1 a failure of
 //! what was tested, 2 a wrong call.
+use crate::domain::Reference;
 use crate::ffi::CCore;
 use crate::generate::Style;
 use crate::model::{DocCore, Mistake, MISTAKES};
@@ -134,6 +135,16 @@ impl Args {
     pub fn other_core(&self) -> Box<dyn Core> {
         let model = || Box::new(DocCore::with_mistake(self.mistake()));
         self.foreign_core().unwrap_or_else(|| model())
+    }
+
+    /// One core alone that does what ought to be done: the Rust in its domain and the model outside it, the model, or the one
+    /// behind the C boundary.
+    pub fn right_core(&self) -> Box<dyn Core> {
+        if self.flag("--model") || self.flag("--c") || self.flag("--each") {
+            self.one_core()
+        } else {
+            Box::new(Reference::default())
+        }
     }
 
     /// One core alone: the Rust, the model, or the one behind the C boundary.

@@ -1,15 +1,18 @@
-//! Two cores side by side, the Rust and another: answer, whole state and RAM after every operation.
+//! Two cores side by side, the Rust and another: answer, whole state and RAM after every operation. What leaves the Rust's
+//! domain is judged by the second model.
+use crate::domain::{self, Judge};
 use crate::op::{Ans, Line, Op};
 use crate::rust::RustCore;
 use crate::{feed, Core, Ram, State};
 
-/// An operation that the Rust has just carried out.
+/// An operation that the Rust, or the second model in its place, has just carried out.
 pub struct Step<'a> {
     pub op: &'a Op,
     pub answer: &'a Ans,
     /// Before the operation: hits and walks, to see where its answer came from.
     pub before: (u64, u64),
     pub rust: &'a RustCore,
+    pub judge: Judge,
     /// The other core has no such operation, so nothing was compared.
     pub left_out: bool,
 }
@@ -69,7 +72,7 @@ pub fn compare(lines: &[Line], other: &mut dyn Core, mut watch: impl FnMut(Step)
     for (at, line) in lines.iter().enumerate() {
         let before = (rust.cpu.tlb.hits, rust.cpu.tlb.walks);
         let writes = ram.writes;
-        let x = feed(line, &mut rust, &mut ram);
+        let (x, judge) = domain::feed(line, &mut rust, &mut ram);
         let y = feed(line, other, &mut other_ram);
         let (Line::Op(op), Some(answer)) = (line, &x) else {
             continue;
@@ -79,6 +82,7 @@ pub fn compare(lines: &[Line], other: &mut dyn Core, mut watch: impl FnMut(Step)
             answer,
             before,
             rust: &rust,
+            judge,
             left_out: y.is_none(),
         });
         if y.is_none() {

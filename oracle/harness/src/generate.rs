@@ -2,6 +2,7 @@
 mod actions;
 mod address;
 mod census;
+mod flat;
 pub mod keys;
 mod registers;
 mod rng;
@@ -52,7 +53,7 @@ pub struct Generator {
     wrap: bool,
 }
 
-/// A trace of about `n` operations, censuses not counted.
+/// A trace of about `n` operations, censuses and the edge of flat addresses not counted.
 pub fn trace(seed: u64, n: usize, style: Style) -> Vec<Line> {
     let mut g = Generator::new(seed, style);
     let mut ops = 0;
@@ -67,6 +68,7 @@ pub fn trace(seed: u64, n: usize, style: Style) -> Vec<Line> {
             ops += g.lines[before..].iter().filter(counts).count();
         }
     }
+    g.flat_edge(seed);
     g.lines
 }
 

@@ -1,7 +1,8 @@
 //! Every range, size, granule code and output size, each walked through a table that points to itself in a window of
 //! eight bytes: a descriptor read anywhere else is a fault, so the place of every read is compared.
+use crate::domain;
 use crate::generate::Rng;
-use crate::op::{Ans, Op};
+use crate::op::{Ans, Line, Op};
 use crate::rust::RustCore;
 use crate::{Core, Ram};
 use pimu::aarch64::sysreg::key;
@@ -202,8 +203,52 @@ impl<'a> Grid<'a> {
                     output_code,
                 })?;
             }
+            if self.ask == Ask::List && !upper {
+                self.flat(regime)?;
+            }
         }
         Ok(())
+    }
+
+    /// Stage 1 off: each setting of TBI, and addresses on both sides of 2^44 and of bit 55, with and without a tag.
+    fn flat(&mut self, regime: u32) -> Result<(), String> {
+        let op1 = [0, 0, 4, 6][regime as usize];
+        let mut ram = Ram::of((1 << 44) - 8, vec![0; 16]);
+        for tbi in [0, 1 << 20, 1 << 37, 1 << 38, 3 << 37] {
+            for va in [0, 0x1000, (1 << 44) - 0x1000, (1 << 44) - 8, 1 << 44, 1 << 48, 1 << 55, 0xFF << 55, u64::MAX] {
+                for va in [va, va ^ 0x5A << 56] {
+                    let ops = [
+                        Op::Level(3),
+                        Op::Reg(key(3, op1, 2, 0, 2), tbi),
+                        Op::Reg(key(3, op1, 1, 0, 0), 0),
+                        Op::SetX(0, va),
+                        Op::Sys(op1, 7, 8, 0, 0),
+                        Op::Level(regime),
+                        Op::Census(va, 1),
+                        Op::Translate(1, va),
+                        Op::Load(va, 8),
+                        Op::Store(va, 8, tbi),
+                        Op::Fetch(va),
+                    ];
+                    for op in ops {
+                        self.ask_both(&op, &mut ram)
+                            .map_err(|e| format!("regime {regime} off, TCR {tbi:x}: {e}"))?;
+                    }
+                }
+            }
+        }
+        Ok(())
+    }
+
+    /// An operation by what ought to be done and by the other core: the answer, where both agree.
+    fn ask_both(&mut self, op: &Op, ram: &mut Ram) -> Result<Ans, String> {
+        let mut other_ram = ram.clone();
+        let (x, _) = domain::feed(&Line::Op(*op), &mut self.rust, ram);
+        let (x, y) = (x.expect("an operation's answer"), self.other.step(op, &mut other_ram));
+        if x != y || (self.ask == Ask::List && !self.other.holds(&self.rust)) || *ram != other_ram {
+            return Err(format!("{op}: rust {x}, other {y}"));
+        }
+        Ok(x)
     }
 
     fn cell(&mut self, cell: &Cell) -> Result<(), String> {
@@ -214,15 +259,9 @@ impl<'a> Grid<'a> {
             cell.regime, cell.upper, walk.tcr, walk.ttbr, walk.sctlr, walk.ram.base
         );
         for op in walk.ops(cell, self.ask) {
-            let x = self.rust.step(&op, &mut walk.ram);
-            let y = self.other.step(&op, &mut walk.ram);
-            if x != y || (self.ask == Ask::List && !self.other.holds(&self.rust)) {
-                return Err(format!(
-                    "{setting} word {:x?}: {op}: rust {x}, other {y}",
-                    &walk.ram.bytes[..]
-                ));
-            }
-            last = x;
+            last = self
+                .ask_both(&op, &mut walk.ram)
+                .map_err(|e| format!("{setting} word {:x?}: {e}", &walk.ram.bytes[..]))?;
         }
         self.walks += 1;
         let class = match last {

@@ -5,6 +5,7 @@ pub mod census;
 pub mod cli;
 pub mod compare;
 pub mod coverage;
+pub mod domain;
 pub mod expect;
 pub mod faithful;
 pub mod ffi;
@@ -43,7 +44,8 @@ pub use refusal::refusal;
 pub use state::State;
 
 /// One core under the scope's operations. Three stand here: pimu's Rust ([`rust::RustCore`]), a model written
-/// from the scope's words ([`model::DocCore`]), and whatever is behind the C boundary ([`ffi::CCore`]).
+/// from the scope's words ([`model::DocCore`]), and whatever is behind the C boundary ([`ffi::CCore`]). What a core ought
+/// to do is the Rust's in its domain and the model's outside it ([`domain`]).
 pub trait Core {
     /// Become a fresh core, the one `Cpu::new` gives.
     fn reset(&mut self);

@@ -11,12 +11,13 @@ mod tlbi;
 
 use crate::compare::Step;
 use crate::coverage::Event;
+use crate::domain::{self, Judge};
 use crate::ffi::{encode, encode_answer};
 use crate::op::{Ans, Line};
 use crate::rust::RustCore;
 use crate::state::PAR;
 use crate::tally::Tally;
-use crate::{feed, Core, Ram, State};
+use crate::{Core, Ram, State};
 use std::collections::BTreeMap;
 
 /// The first word of a file: the bytes "A72REC02".
@@ -73,6 +74,7 @@ struct Recorder<'a> {
     ram: Ram,
     words: Vec<u64>,
     operations: u64,
+    by_model: u64,
     longest: u64,
     shown: &'a mut Shown,
 }
@@ -80,25 +82,27 @@ struct Recorder<'a> {
 impl Recorder<'_> {
     fn line(&mut self, line: &Line) {
         let before = self.rust.state();
-        let answer = feed(line, &mut self.rust, &mut self.ram);
+        let (answer, judge) = domain::feed(line, &mut self.rust, &mut self.ram);
         self.words.extend(encode(line));
         self.longest = self.longest.max(self.ram.bytes.len() as u64);
         let (Line::Op(op), Some(answer)) = (line, answer) else {
             return;
         };
         self.operations += 1;
+        self.by_model += (judge == Judge::Model) as u64;
         self.words.extend(encode_answer(&answer));
         self.words.extend(summary(&self.rust.state(), self.ram.digest()));
-        self.show(op, &answer, &before);
+        self.show(op, &answer, &before, judge);
     }
 
-    fn show(&mut self, op: &crate::Op, answer: &Ans, before: &State) {
+    fn show(&mut self, op: &crate::Op, answer: &Ans, before: &State, judge: Judge) {
         let (rust, ram) = (&self.rust, &self.ram);
         self.shown.tally.note(&Step {
             op,
             answer,
             before: (before.hits(), before.walks()),
             rust,
+            judge,
             left_out: false,
         });
         for (subject, case) in (Event {
@@ -128,13 +132,14 @@ pub fn record(lines: &[Line], shown: &mut Shown) -> Vec<u8> {
         ram: Ram::default(),
         words: Vec::new(),
         operations: 0,
+        by_model: 0,
         longest: 0,
         shown,
     };
     lines.iter().for_each(|l| r.line(l));
     let all = 8 + r.words.len() as u64;
     let (lines, line) = (lines.len() as u64, LINE as u64);
-    let header = [MAGIC, all, lines, r.operations, r.longest, 0, line, 0];
+    let header = [MAGIC, all, lines, r.operations, r.longest, 0, line, r.by_model];
     header
         .into_iter()
         .chain(r.words)

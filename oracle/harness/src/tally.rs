@@ -1,5 +1,6 @@
 //! How often each operation gave each kind of answer.
 use crate::compare::Step;
+use crate::domain::Judge;
 use crate::op::{Ans, Op};
 use pimu::aarch64::access::cpu::unprivileged;
 use std::fmt::{self, Display, Formatter};
@@ -50,6 +51,8 @@ const STATUS: [&str; 4] = ["fault", "data", "insn", "PAR"];
 
 pub struct Tally {
     counts: Vec<[u64; CLASSES]>,
+    /// Of the operations outside the Rust's domain, which the second model judged; they are in no other number.
+    by_model: Vec<[u64; CLASSES]>,
     /// Translations answered by a walk, an entry, a hint, or flat.
     via: [u64; 4],
     /// Operations that counted hits and those that counted walks, by level; last those at EL1 while unprivileged, which
@@ -64,6 +67,7 @@ impl Default for Tally {
     fn default() -> Tally {
         Tally {
             counts: vec![[0; CLASSES]; KINDS.len()],
+            by_model: vec![[0; CLASSES]; KINDS.len()],
             via: [0; 4],
             by_level: [[0; 2]; 5],
             operations: 0,
@@ -144,6 +148,10 @@ impl Tally {
             self.left_out += 1;
             return;
         }
+        if step.judge == Judge::Model {
+            self.by_model[kind(step.op)][class(step)] += 1;
+            return;
+        }
         self.operations += 1;
         self.counts[kind(step.op)][class(step)] += 1;
         self.note_level(step);
@@ -176,7 +184,9 @@ impl Tally {
 
     /// Another tally's numbers, too.
     pub fn add(&mut self, other: &Tally) {
-        for (mine, theirs) in self.counts.iter_mut().zip(&other.counts) {
+        let (mine, theirs) = (self.counts.iter_mut(), other.counts.iter());
+        let (models, others) = (self.by_model.iter_mut(), other.by_model.iter());
+        for (mine, theirs) in mine.chain(models).zip(theirs.chain(others)) {
             mine.iter_mut().zip(theirs).for_each(|(a, b)| *a += b);
         }
         self.via.iter_mut().zip(other.via).for_each(|(a, b)| *a += b);
@@ -188,9 +198,23 @@ impl Tally {
         self.left_out += other.left_out;
     }
 
+    /// How many operations the second model judged.
+    pub fn by_model(&self) -> u64 {
+        self.by_model.iter().flatten().sum()
+    }
+
     /// Rows of operation, number, and answers with their numbers, by name.
     pub fn rows(&self) -> impl Iterator<Item = (&'static str, u64, String)> + '_ {
-        let seen = KINDS.iter().zip(&self.counts);
+        Tally::rows_of(&self.counts)
+    }
+
+    /// The same of the operations that the second model judged.
+    pub fn rows_by_model(&self) -> impl Iterator<Item = (&'static str, u64, String)> + '_ {
+        Tally::rows_of(&self.by_model)
+    }
+
+    fn rows_of(counts: &[[u64; CLASSES]]) -> impl Iterator<Item = (&'static str, u64, String)> + '_ {
+        let seen = KINDS.iter().zip(counts);
         seen.filter(|(_, row)| row.iter().any(|n| *n != 0))
             .map(|(kind, row)| {
                 let some = row.iter().enumerate().filter(|(_, n)| **n != 0);
@@ -222,6 +246,9 @@ impl Display for Tally {
     fn fmt(&self, f: &mut Formatter) -> fmt::Result {
         for (kind, n, answers) in self.rows() {
             writeln!(f, "{kind:10} {n:8}  {answers}")?;
+        }
+        for (kind, n, answers) in self.rows_by_model() {
+            writeln!(f, "{kind:10} {n:8}  {answers}; by the second model")?;
         }
         writeln!(f, "{}", self.sources())?;
         writeln!(f, "{}", self.levels())?;

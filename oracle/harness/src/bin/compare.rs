@@ -11,7 +11,8 @@ const USAGE: &str = "compare [--c | --each | --mistake M] TRACE..
        compare [--c | --each | --mistake M] --seeds FROM TO N [--strict | --wild] [--jobs J]
   The Rust beside the model (--c: the core behind the C boundary; --each: the same by its function for each
   operation; --mistake: the model with that mistake), on traces or on those of the seeds FROM to TO - 1 with about N
-  operations each, J seeds at a time. Stops at the first operation after which answer, state or RAM differ. Shows how
+  operations each, J seeds at a time. An operation outside the Rust's domain is judged by
+  the model. Stops at the first operation after which answer, state or RAM differ. Shows how
   often each operation gave each answer. Status 1 where they differ, or no operation was compared.";
 
 /// Lines with their numbers in the trace.
@@ -76,6 +77,6 @@ fn main() {
     };
     let (said, good) = verdict(tally.operations, equal, ["all equal", "DIFFERENT"]);
     print!("{tally}");
-    println!("{} operations, {said}", tally.operations);
+    println!("{} operations, {} by the second model, {said}", tally.operations, tally.by_model());
     finish(good)
 }

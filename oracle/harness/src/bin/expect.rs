@@ -3,7 +3,7 @@ use harness::cli::{finish, Args, NOTHING};
 use harness::expect::hold;
 
 const USAGE: &str = "expect [--model | --c | --each] TRACE..
-  Runs each trace on the Rust (--model: on the model; --c: on the core behind the C boundary; --each:
+  Runs each trace on the Rust, in its domain (--model: on the model; --c: on the core behind the C boundary; --each:
   by its function for each operation) and holds each operation
   to what stands after '#=' on its line. Status 1 where one is wrong, or there is none.";
 
@@ -12,7 +12,7 @@ fn main() {
     if args.words().is_empty() {
         args.fail("a trace is missing");
     }
-    let mut core = args.one_core();
+    let mut core = args.right_core();
     let (mut expectations, mut wrong, mut left_out) = (0, 0, 0);
     for file in args.words() {
         let outcome = hold(&args.text(file), core.as_mut());

@@ -1,12 +1,13 @@
 //! Test faithfulness on lists made from seeds.
 use harness::cli::{finish, verdict, Args};
+use harness::domain::Reference;
 use harness::faithful::{hold, Seen};
 use harness::generate::{trace, Style};
 use harness::rust::{Rule, RustCore};
 use harness::Core;
 
 const USAGE: &str = "faithful FROM TO N [--c | --each | --mistake M | --rule pimu|noflush|noretag]
-  Strict traces of the seeds FROM to TO - 1 with about N operations each, on the Rust (--c: on the core behind the C
+  Strict traces of the seeds FROM to TO - 1 with about N operations each, on the Rust in its domain (--c: on the core behind the C
   boundary, --each by its functions; --mistake: on the model with that mistake; --rule: on the Rust with another rule
   of a register write).
   Status 1 where it is broken, or no translation was answered by the cache.";
@@ -16,7 +17,7 @@ fn core(args: &Args) -> Box<dyn Core> {
         return args.other_core();
     }
     let rule = match args.value("--rule") {
-        None => Rule::Document,
+        None => return Box::new(Reference::default()),
         Some("pimu") => Rule::Pimu,
         Some("noflush") => Rule::NoFlush,
         Some("noretag") => Rule::NoRetag,

@@ -3,7 +3,7 @@ use harness::cli::{finish, Args, NOTHING};
 use harness::recorded::replay::replay;
 
 const USAGE: &str = "replay [--model | --c | --each] FILE.rec..
-  Replays recorded files on the Rust (--model: on the model; --c: on the core behind the C boundary; --each:
+  Replays recorded files on the Rust, in its domain (--model: on the model; --c: on the core behind the C boundary; --each:
   by its function for each operation). Status 1 where a file goes otherwise, or no answer is recorded.";
 
 fn main() {
@@ -11,7 +11,7 @@ fn main() {
     if args.words().is_empty() {
         args.fail("a file is missing");
     }
-    let mut core = args.one_core();
+    let mut core = args.right_core();
     let (mut operations, mut wrong, mut left_out, mut cases, mut judged) = (0, 0, 0, 0, 0);
     for file in args.words() {
         let bytes = std::fs::read(file).unwrap_or_else(|e| args.fail(&format!("{file}: {e}")));

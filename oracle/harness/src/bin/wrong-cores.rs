@@ -2,11 +2,12 @@
 use harness::cli::{finish, Args};
 use harness::generate::{trace, Style};
 use harness::model::{DocCore, Mistake, MISTAKES};
+use harness::domain;
 use harness::rust::RustCore;
 use harness::{feed, Ans, Core, Line, Ram, State};
 
 const USAGE: &str = "wrong-cores SEED N
-  Runs each of the model's mistakes beside the Rust on strict traces from SEED on, for at most about N operations,
+  Runs each of the model's mistakes beside the Rust (the model itself outside the Rust's domain) on strict traces from SEED on, for at most about N operations,
   and says after how many operations the state told them apart, and when the answers, counters, registers or RAM
   alone did. Status 1 where one is not caught by the latter.";
 
@@ -40,7 +41,7 @@ struct Pair {
 impl Pair {
     fn feed(&mut self, line: &Line) -> [Option<Ans>; 2] {
         let [a, b] = &mut self.rams;
-        [feed(line, &mut self.rust, a), feed(line, &mut self.wrong, b)]
+        [domain::feed(line, &mut self.rust, a).0, feed(line, &mut self.wrong, b)]
     }
 
     /// Whether the whole state differs, and whether something that the scope compares does.

@@ -1,6 +1,6 @@
 //! What carries faithfulness through a list: the cache's ASID is the registers'; behind each live entry stands an
 //! uncovered walk of its page with its page, permissions, level, globality and ASID, and its regime is on; behind each
-//! hint stands either a regime that is off and the same page, or an uncovered walk of the untagged page, global or
+//! hint stands either a regime that is off and the untagged page, or an uncovered walk of the untagged page, global or
 //! of the ASID in force, with that physical page and the bit that kind and level need.
 use super::past::Past;
 use crate::model::{needed, Regs};
@@ -11,7 +11,7 @@ use crate::State;
 fn hint_backed(r: &Regs, past: &Past, level: u32, va: u64, pa: u64, kind: u8) -> bool {
     let regime = level.max(1);
     if !r.on(regime) {
-        return pa == va;
+        return r.flat(regime, va) == Ok(pa);
     }
     let need = needed(kind, level == 0);
     past.of(regime, r.untag(regime, va) >> 12)

@@ -108,10 +108,15 @@ impl DocCore {
                 return Ok(pa | (va % 4096));
             }
         }
-        let pa = self.past_hints(ram, kind, va)?;
+        let answer = self.past_hints(ram, kind, va);
         let flat = !self.regs.on(self.regs.regime());
+        if hinted && flat && answer.is_err() && self.makes(Mistake::FlatFaultDropsHint) {
+            self.hints.remove(&slot);
+        }
+        let pa = answer?;
+        let raw = flat && self.makes(Mistake::FlatHintOfRawPage);
         if hinted && !(flat && self.makes(Mistake::FlatSetsNoHint)) {
-            self.hints.insert(slot, (key, pa / 4096 * 4096));
+            self.hints.insert(slot, (key, if raw { va } else { pa } / 4096 * 4096));
         }
         Ok(pa)
     }
@@ -119,7 +124,7 @@ impl DocCore {
     fn past_hints(&mut self, ram: &Ram, kind: u8, va: u64) -> Result<u64, u8> {
         let regime = self.regs.regime();
         if !self.regs.on(regime) {
-            return Ok(va);
+            return self.regs.flat(regime, va);
         }
         let bare = self.regs.untag(regime, va);
         let need = needed(kind, self.regs.user(kind));

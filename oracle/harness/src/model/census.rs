@@ -36,10 +36,11 @@ impl DocCore {
     }
 
     /// The place of a page's count: the status of its walk, 64 plus the permission byte that it ends at, or 128 where
-    /// stage 1 is off. `bare` is untagged.
+    /// stage 1 is off, but 0 of an address from 2^44 on. `bare` is untagged.
     fn count_of(&mut self, ram: &Ram, regime: u32, bare: u64) -> usize {
         if !self.regs.on(regime) {
-            return if self.makes(Mistake::CensusFlatIsStatus0) {
+            let large = bare >> 44 != 0 && !self.makes(Mistake::CensusFlatUntested);
+            return if large || self.makes(Mistake::CensusFlatIsStatus0) {
                 0
             } else {
                 128

@@ -52,12 +52,20 @@ pub enum Mistake {
     CountedAtEl0,
     HintCountsHit,
     EntryFaultNotCounted,
+    FlatKeepsTag,
+    FlatAt48Bits,
+    FlatLastByteToo,
+    FlatAtUntested,
+    CensusFlatUntested,
+    FlatFaultDropsHint,
+    FlatHintOfRawPage,
+    FlatUntaggedByEl1,
 }
 
 use Mistake::*;
 
 /// Each mistake with what it does, by number from 1.
-pub const MISTAKES: [(Mistake, &str); 50] = [
+pub const MISTAKES: [(Mistake, &str); 58] = [
     (FlagBeforeSize, "access flag judged before the output size"),
     (
         PageDropsOnePage,
@@ -138,4 +146,12 @@ pub const MISTAKES: [(Mistake, &str); 50] = [
         EntryFaultNotCounted,
         "a permission fault from an entry counts no hit",
     ),
+    (FlatKeepsTag, "a flat address keeps its tag"),
+    (FlatAt48Bits, "a flat address may have 48 bits"),
+    (FlatLastByteToo, "a flat access is judged by its last byte too"),
+    (FlatAtUntested, "AT of a flat address that is too large succeeds"),
+    (CensusFlatUntested, "census counts every flat page as flat"),
+    (FlatFaultDropsHint, "a flat fault drops the hint of its slot"),
+    (FlatHintOfRawPage, "the hint of a flat address is of the raw page"),
+    (FlatUntaggedByEl1, "the tag of a flat address goes by EL1&0's TCR"),
 ];

@@ -95,7 +95,11 @@ impl Regs {
         let fault = |s: u8| 0x801 + 2 * u64::from(s);
         let ns = bit(self.get(Bank::Scr, 3), 0) && regime != 3;
         if !self.on(regime) {
-            return page(va) + 0x800 + 0x200 * ns as u64;
+            let untested = self.makes(Mistake::FlatAtUntested);
+            return match self.flat(regime, va) {
+                Err(s) if !untested => fault(s),
+                answer => page(answer.unwrap_or(va)) + 0x800 + 0x200 * ns as u64,
+            };
         }
         let need = needed(1 + write as u8, user);
         match self.walk(ram, regime, self.untag(regime, va)) {

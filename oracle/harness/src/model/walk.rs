@@ -96,6 +96,19 @@ impl Regs {
         }
     }
 
+    /// With stage 1 off: the address without its tag, or an address size fault of level 0 where a bit from 44 on is set.
+    /// The error is the status.
+    pub fn flat(&self, regime: u32, va: u64) -> Result<u64, u8> {
+        let of = if self.makes(Mistake::FlatUntaggedByEl1) { 1 } else { regime };
+        let bare = if self.makes(Mistake::FlatKeepsTag) { va } else { self.untag(of, va) };
+        let size = if self.makes(Mistake::FlatAt48Bits) { 48 } else { 44 };
+        if bare >> size == 0 {
+            Ok(bare)
+        } else {
+            Err(0x00)
+        }
+    }
+
     /// The number of input bits that a TxSZ leaves.
     fn input_bits(&self, size: u64) -> u32 {
         let most = if self.makes(Mistake::SizeClampedAt47) {
@@ -232,7 +245,7 @@ impl Regs {
     pub fn translation_without_cache(&self, ram: &Ram, kind: u8, va: u64) -> Result<u64, u8> {
         let regime = self.regime();
         if !self.on(regime) {
-            return Ok(va);
+            return self.flat(regime, va);
         }
         let leaf = self.walk(ram, regime, self.untag(regime, va))?;
         if leaf.perms & needed(kind, self.user(kind)) == 0 {

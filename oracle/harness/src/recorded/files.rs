@@ -97,6 +97,9 @@ fn table(shown: &Shown) -> String {
     for (kind, n, answers) in shown.tally.rows() {
         let _ = writeln!(s, "| {kind} | {n} | {answers} |");
     }
+    for (kind, n, answers) in shown.tally.rows_by_model() {
+        let _ = writeln!(s, "| {kind}, by the second model | {n} | {answers} |");
+    }
     let _ = writeln!(
         s,
         "\nOf these, {}.\n\n| Subject | Cases |\n|---|---|",

@@ -12,7 +12,11 @@ fn words(bytes: &[u8]) -> Result<Vec<u64>, String> {
         .collect();
     let whole = |n: u64| n as usize == words.len() && 8 * words.len() == bytes.len();
     match words.get(..8) {
-        Some(&[MAGIC, n, .., line, 0]) if whole(n) && line == LINE as u64 => Ok(words),
+        Some(&[MAGIC, n, _, operations, .., line, by_model])
+            if whole(n) && line == LINE as u64 && by_model <= operations =>
+        {
+            Ok(words)
+        }
         _ => Err("no recorded file, or not a whole one".into()),
     }
 }
