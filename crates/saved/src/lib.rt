@@ -3,7 +3,7 @@
 // core.
 mod parts;
 pub mod place;
-mod ranges;
+pub mod ranges;
 pub mod restore;
 pub mod save;
 pub mod theorems;

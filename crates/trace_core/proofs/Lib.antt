@@ -1,1 +1,2 @@
+pub mod Statuses
 pub mod Told

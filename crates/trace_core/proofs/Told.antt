@@ -1,6 +1,6 @@
 -- A reply by its number and its value alone: of each call what a fault of it tells besides is known.
 use Rattle.std.specs.Prelude.{Ok, Err}
-use Rattle.std.proofs.Common.{◌≡◌, ℕ, zero, suc, ◌+◌, ◌%◌, ◌<◌, ◌≤◌, List, length, true, false, Option, Some, None, refl, sym, ap, ◌∙◌, arith, le-ltb}
+use Rattle.std.proofs.Common.{◌≡◌, ℕ, zero, suc, ◌+◌, ◌%◌, ◌^◌, ◌<◌, ◌≤◌, List, length, true, false, Option, Some, None, refl, sym, ap, ◌∙◌, arith, le-ltb}
 use Rattle.std.proofs.lemmas.Bool.{ne_eqb}
 use Rattle.word.specs.declared.ram.Width.{Width}
 use Rattle.word.specs.Ram.{word_at, width_of, bytes_in}
@@ -16,15 +16,18 @@ use Rattle.cpu.specs.Replies.{translation, reaching, loading, storing, fetching}
 use Rattle.cpu.specs.Place.{verdict_of}
 use Rattle.cpu.specs.declared.{call.Call.Call, call.Reply.Reply}
 use Rattle.cpu.specs.declared.call.Reply.TheVariants.{Refused, Done, Value, Faults, Fault, Stopped}
+use Rattle.tlb.specs.declared.access.Kind.TheVariants.{Read, Write}
 use Rattle.cpu.specs.declared.Core.{Core}
 use Rattle.cpu.specs.Memory.{translate_of, read_of, write_of, fetch_of, fetch_pa_of, data_pa_of}
 use Rattle.cpu.specs.Step.{ends, load_by, store_by, refused_or, missed_by, run_of, step_of}
 use Rattle.cpu.proofs.EveryCallEnds.{number-le}
 use Rattle.call_words.specs.Replies.{code_by, value_by}
+use Rattle.saved.specs.Fits.{Fits}
 use Rattle.trace_core.specs.Told.{told, fault_told, data_told, insn_told}
+use Rattle.trace_core.proofs.Statuses.{Byte, PlacedByte, stepped-byte, fetched-byte, located-byte}
 
--- a status below 256, by its number
-faulted : (s : ℕ) (finished : Reply) (of : ℕ → Reply) → 256 + s < 512 → of s ≡ told (256 + s) finished (of ((256 + s) % 256))
+-- a status, by its number
+faulted : (s : ℕ) (finished : Reply) (of : ℕ → Reply) → s < 2 ^ 8 → of s ≡ told (256 + s) finished (of ((256 + s) % 256))
 faulted s finished of l =
     rw (ne_eqb (256 + s) 0 (λ e. omega arith), le-ltb (256 + s) 256 (omega arith))
     (let z : s ≡ (256 + s) % 256 = omega arith in ap of z)
@@ -38,29 +41,29 @@ reply_of c base ram call = (step_of c base ram call).reply
 -- The reply where it is done, by the value, and where it faults, by the number and the value.
 module _ (done : ℕ → Reply) (fault : ℕ → ℕ → Reply) where
   abbrev IsTold : Reply → Type 0
-  IsTold r = code_by r < 512 → r ≡ told (code_by r) (done (value_by r 0)) (fault (code_by r) (value_by r 0))
+  IsTold r = r ≡ told (code_by r) (done (value_by r 0)) (fault (code_by r) (value_by r 0))
 
   -- of a caller that has the call's number and value
   abbrev pub Tells : Core → ℕ → List ℕ → Call → Type 0
   Tells c base ram call =
       (n v : ℕ) (r : Reply) → n ≡ code_by (reply_of c base ram call) → v ≡ value_by (reply_of c base ram call) 0
-      → r ≡ told n (done v) (fault n v) → code_by (reply_of c base ram call) < 512 → r ≡ reply_of c base ram call
+      → r ≡ told n (done v) (fault n v) → r ≡ reply_of c base ram call
 
   refused : (n : ℕ) → suc n ≤ 7 → IsTold (Refused (suc n))
-  refused zero l b = refl
-  refused (suc zero) l b = refl
-  refused (suc (suc zero)) l b = refl
-  refused (suc (suc (suc zero))) l b = refl
-  refused (suc (suc (suc (suc zero)))) l b = refl
-  refused (suc (suc (suc (suc (suc zero))))) l b = refl
-  refused (suc (suc (suc (suc (suc (suc zero)))))) l b = refl
-  refused (suc (suc (suc (suc (suc (suc (suc n))))))) l b = absurd (past n l)
+  refused zero l = refl
+  refused (suc zero) l = refl
+  refused (suc (suc zero)) l = refl
+  refused (suc (suc (suc zero))) l = refl
+  refused (suc (suc (suc (suc zero)))) l = refl
+  refused (suc (suc (suc (suc (suc zero))))) l = refl
+  refused (suc (suc (suc (suc (suc (suc zero)))))) l = refl
+  refused (suc (suc (suc (suc (suc (suc (suc n))))))) l = absurd (past n l)
 
   -- a check's number, or what the operation says
   told_run : (c : Core) (base : ℕ) (ram : List ℕ) (call : Call) → IsTold (run_of c base ram call).reply → Tells c base ram call
   unfolding step_of
-  told_run c base ram call h n v r a b e l =
-      e ∙ (λ i. told (a i) (done (b i)) (fault (a i) (b i))) ∙ sym (go (missed_by c base ram call) (number-le c base ram call) l)
+  told_run c base ram call h n v r a b e =
+      e ∙ (λ i. told (a i) (done (b i)) (fault (a i) (b i))) ∙ sym (go (missed_by c base ram call) (number-le c base ram call))
     where
       go : (k : ℕ) → k ≤ 7 → IsTold (refused_or k (λ m. ends c (Refused m)) (run_of c base ram call)).reply
       go zero l = h
@@ -80,50 +83,73 @@ write_faults n v = data_told n v true
 abbrev stored_as : ℕ → Reply
 stored_as v = Done
 
-translated : (va : ℕ) (a : Answer) → IsTold Value (λ n v. fault_told n va) (translation va a)
+translated : (va : ℕ) (a : Answer) → Byte a → IsTold Value (λ n v. fault_told n va) (translation va a)
 translated va (Ok pa) l = refl
 translated va (Err f) l = faulted f.fsc (Value 0) (λ s. Fault va (first s)) l
 
 reached : (a : Option ℕ) → IsTold Value faults (reaching a)
-reached (Some pa) l = refl
-reached None l = refl
+reached (Some pa) = refl
+reached None = refl
 
-loaded : (x : Placed) (last abort base : ℕ) (ram : List ℕ) (va n : ℕ) → IsTold Value read_faults (loading (load_end x last abort base ram va n).answer)
+loaded : (x : Placed) (last abort base : ℕ) (ram : List ℕ) (va n : ℕ) → PlacedByte x → IsTold Value read_faults (loading (load_end x last abort base ram va n).answer)
 unfolding load_end
 loaded (Err failed) last abort base ram va n l =
     faulted failed.fault.fsc (Value failed.addr) (λ s. Stopped (Stop.Exception (data_abort_at failed.addr false (first s)))) l
-loaded (Ok place) last abort base ram va n l = go (load_of base ram place n) l
+loaded (Ok place) last abort base ram va n l = go (load_of base ram place n)
   where
     go : (g : Got) → IsTold Value read_faults (loading (loaded_from place g abort va).answer)
-    go (Ok v) l = refl
-    go (Err out) l = refl
+    go (Ok v) = refl
+    go (Err out) = refl
 
-stored : (x : Placed) (abort base : ℕ) (ram : List ℕ) (va n : ℕ) → IsTold stored_as write_faults (storing (store_end x abort base ram va n).answer)
+stored : (x : Placed) (abort base : ℕ) (ram : List ℕ) (va n : ℕ) → PlacedByte x → IsTold stored_as write_faults (storing (store_end x abort base ram va n).answer)
 unfolding store_end
 stored (Err failed) abort base ram va n l =
     faulted failed.fault.fsc Done (λ s. Stopped (Stop.Exception (data_abort_at failed.addr true (first s)))) l
-stored (Ok place) abort base ram va n l = go (verdict_of base (length ram) place n) l
+stored (Ok place) abort base ram va n l = go (verdict_of base (length ram) place n)
   where
     go : (d : Verdict) → IsTold stored_as write_faults (storing (store_end_by d abort va).answer)
-    go (Ok x) l = refl
-    go (Err out) l = refl
+    go (Ok x) = refl
+    go (Err out) = refl
 
-fetched : (a : Answer) (abort base : ℕ) (ram : List ℕ) (va : ℕ) → IsTold Value (λ n v. insn_told n va) (fetching (fetch_end a abort base ram va).answer)
+fetched : (a : Answer) (abort base : ℕ) (ram : List ℕ) (va : ℕ) → Byte a → IsTold Value (λ n v. insn_told n va) (fetching (fetch_end a abort base ram va).answer)
 unfolding fetch_end
 fetched (Err f) abort base ram va l = faulted f.fsc (Value 0) (λ s. Stopped (Stop.Exception (insn_abort_at va (first s)))) l
-fetched (Ok pa) abort base ram va l = go (insn_of base ram pa) l
+fetched (Ok pa) abort base ram va l = go (insn_of base ram pa)
   where
     go : (g : Option ℕ) → IsTold Value (λ n v. insn_told n va) (fetching (fetched_from pa g abort va).answer)
-    go (Some v) l = refl
-    go None l = refl
+    go (Some v) = refl
+    go None = refl
 
 -- EACH CALL
 
-module _ (c : Core) (base : ℕ) (ram : List ℕ) where
+module _ (c : Core) (fits : Fits c) (base : ℕ) (ram : List ℕ) where
   pub told_translation : (kind : Kind) (va : ℕ) → Tells Value (λ n v. fault_told n va) c base ram (Call.Translate kind va)
-  unfolding run_of
-  told_translation kind va = told_run Value (λ n v. fault_told n va) c base ram (Call.Translate kind va) (translated va (translate_of c (word_at base ram 8) va kind).answer)
+  unfolding run_of translate_of
+  told_translation kind va =
+      told_run Value (λ n v. fault_told n va) c base ram (Call.Translate kind va) (translated va _ (stepped-byte c fits (word_at base ram 8) va kind))
 
+  pub told_load : (va size : ℕ) → Tells Value read_faults c base ram (Call.Load va size)
+  unfolding run_of read_of
+  told_load va size = told_run Value read_faults c base ram (Call.Load va size) (go (width_of size))
+    where
+      go : (s : Option Width) → IsTold Value read_faults (load_by s c base ram va).reply
+      go (Some width) = loaded _ _ _ base ram va (bytes_in width) (located-byte c fits (word_at base ram 8) va (bytes_in width) Read)
+      go None = refl
+
+  pub told_store : (va size value : ℕ) → Tells stored_as write_faults c base ram (Call.Store va size value)
+  unfolding run_of write_of
+  told_store va size value = told_run stored_as write_faults c base ram (Call.Store va size value) (go (width_of size))
+    where
+      go : (s : Option Width) → IsTold stored_as write_faults (store_by s c base ram va).reply
+      go (Some width) = stored _ _ base ram va (bytes_in width) (located-byte c fits (word_at base ram 8) va (bytes_in width) Write)
+      go None = refl
+
+  pub told_fetch : (va : ℕ) → Tells Value (λ n v. insn_told n va) c base ram (Call.Fetch va)
+  unfolding run_of fetch_of
+  told_fetch va = told_run Value (λ n v. insn_told n va) c base ram (Call.Fetch va) (fetched _ _ base ram va (fetched-byte c fits (word_at base ram 8) va))
+
+-- a fault of these is told without its status
+module _ (c : Core) (base : ℕ) (ram : List ℕ) where
   pub told_data_pa : (va : ℕ) → Tells Value faults c base ram (Call.DataPa va)
   unfolding run_of
   told_data_pa va = told_run Value faults c base ram (Call.DataPa va) (reached (data_pa_of c (word_at base ram 8) va).answer)
@@ -131,23 +157,3 @@ module _ (c : Core) (base : ℕ) (ram : List ℕ) where
   pub told_fetch_pa : (va : ℕ) → Tells Value faults c base ram (Call.FetchPa va)
   unfolding run_of
   told_fetch_pa va = told_run Value faults c base ram (Call.FetchPa va) (reached (fetch_pa_of c (word_at base ram 8) va).answer)
-
-  pub told_load : (va size : ℕ) → Tells Value read_faults c base ram (Call.Load va size)
-  unfolding run_of read_of
-  told_load va size = told_run Value read_faults c base ram (Call.Load va size) (go (width_of size))
-    where
-      go : (s : Option Width) → IsTold Value read_faults (load_by s c base ram va).reply
-      go (Some width) l = loaded _ _ _ base ram va (bytes_in width) l
-      go None l = refl
-
-  pub told_store : (va size value : ℕ) → Tells stored_as write_faults c base ram (Call.Store va size value)
-  unfolding run_of write_of
-  told_store va size value = told_run stored_as write_faults c base ram (Call.Store va size value) (go (width_of size))
-    where
-      go : (s : Option Width) → IsTold stored_as write_faults (store_by s c base ram va).reply
-      go (Some width) l = stored _ _ base ram va (bytes_in width) l
-      go None l = refl
-
-  pub told_fetch : (va : ℕ) → Tells Value (λ n v. insn_told n va) c base ram (Call.Fetch va)
-  unfolding run_of fetch_of
-  told_fetch va = told_run Value (λ n v. insn_told n va) c base ram (Call.Fetch va) (fetched _ _ base ram va)

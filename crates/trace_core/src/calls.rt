@@ -1,7 +1,6 @@
 //! A call on the core, by the function that C calls, and its reply.
-ghost use Rattle.std.specs.Prelude.{◌≡◌, ◌<◌, ◌%◌};
+ghost use Rattle.std.specs.Prelude.{◌≡◌, ◌%◌};
 ghost use Rattle.fault.specs.First.{first};
-ghost use Rattle.call_words.specs.Replies.{code_by};
 ghost use Rattle.cpu.specs.Step.{ram_after, step_of};
 ghost use Rattle.trace_core.specs.Told.{data_told, insn_told, told};
 
@@ -44,14 +43,14 @@ fn reply(n: u64, done: Reply, faulted: Reply) -> Reply
 }
 
 /// Carries out a call, by the function that C calls where it has one for it. Core, RAM and reply are those of the
-/// definition, the reply where its number is below 512: a number is at most 256 and a status, which is a byte.
+/// definition: a number tells the status whole, since that is a byte of every core (`fits`).
 #[tactic(auto, unfolding(call_words::specs::Ops::translate_call), using(crate::proofs::Told::told_translation, crate::proofs::Told::told_data_pa, crate::proofs::Told::told_fetch_pa, crate::proofs::Told::told_load, crate::proofs::Told::told_store, crate::proofs::Told::told_fetch))]
 pub fn carry_out(core: &mut Core, base: u64, ram: &mut [u8], call: Call) -> Reply
-    ensures reply { code_by (step_of core.old base ram.old call).reply < 512 →
-        result ≡ (step_of core.old base ram.old call).reply }
+    ensures reply { result ≡ (step_of core.old base ram.old call).reply }
     ensures core { core.new ≡ (step_of core.old base ram.old call).core }
     ensures ram { ram.new ≡ ram_after core.old base ram.old call }
 {
+    saved::ranges::fits(core);
     let mut value = 0;
     match call {
         Call::Translate(kind, va) => {

@@ -5,8 +5,8 @@ use cpu::Core;
 use std::io;
 use std::io::Write;
 use tlb::access::Kind;
-use tlb::count::Tally;
 use sysreg::regs::Regime;
+use tlb::count::Tally;
 use tlb::{access, count};
 
 fn kind_name(kind: Kind) -> &'static str {
