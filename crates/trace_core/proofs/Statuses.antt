@@ -13,7 +13,8 @@ use Rattle.tlb.specs.Access.{judged, has_right, right_of, may_hint, user_of}
 use Rattle.tlb.specs.Answers.{Answer, Outcome}
 use Rattle.tlb.specs.Entry.{blank, entry_for, slot_of}
 use Rattle.tlb.specs.Hint.{data_slot, fetch_found, hint_for, on_page}
-use Rattle.tlb.specs.Lists.{Each, done, more, each_set, each-getD}
+use Rattle.tlb.specs.Lists.{Each, done, more}
+use Rattle.tlb.proofs.Lists.{each_set, each-getD}
 use Rattle.tlb.specs.Model.{Access}
 use Rattle.tlb.specs.Tlb.{entry_at, get_of, put_of}
 use Rattle.tlb.specs.Translate.{access_of, tag_in, walked_in, looked_in, miss_in, hint_in, hint_left, tried_in, translation_in, fetch_tried, fetch_in}
