@@ -5,7 +5,8 @@ use Rattle.std.proofs.Common.{arith}
 use Rattle.std.proofs.lemmas.Nat.{or_of_8}
 use Rattle.fault.specs.First.{first}
 use Rattle.walk.specs.Answers.{Walked}
-use Rattle.walk.specs.Regime.{regime_of, stage1_on}
+use Rattle.walk.specs.Regime.{stage1_on}
+use Rattle.sysreg.specs.Regs.{regime_of}
 use Rattle.walk.specs.Tag.{untagged}
 use Rattle.walk.specs.declared.{regime.Bank.Bank}
 use Rattle.walk.proofs.WalkBounds.{leaf-bounds, fault-status, status-small}
