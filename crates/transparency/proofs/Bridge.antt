@@ -11,6 +11,7 @@ use Rattle.cpu.specs.Bare.{Bare, with_privilege, bare_of, with_regs}
 use Rattle.cpu.specs.Core.{reg_of, set_reg, after_access}
 use Rattle.cpu.specs.Memory.{write_of}
 use Rattle.cpu.specs.OpLaws as Laws
+use Rattle.cpu.proofs.OpLaws as Proved
 use Rattle.cpu.specs.declared.Core.{Core}
 use Rattle.system.specs.declared.decode.Encoding.{Encoding}
 use Rattle.cpu.specs.declared.call.Call.{Call}
@@ -53,7 +54,7 @@ fits-idle c m = record { bare = refl; plain = refl; tlb = refl }
 operation-fits : (c : Core) (m : Ram) (o : Laws.Operation)
     → Fits c (Laws.operation_core c m.base m.bytes o) (bare_of c) (steps m (asking (Laws.asks_of (Laws.on_now c) o)) ∷ [])
 operation-fits c m o =
-    record { bare = Laws.kept c m.base m.bytes o; plain = refl; tlb = Laws.tlb-after c m.base m.bytes o }
+    record { bare = Proved.kept c m.base m.bytes o; plain = refl; tlb = Laws.tlb-after c m.base m.bytes o }
 
 load_fits : (c : Core) (m : Ram) (va : ℕ) (s : Option Width)
     → Fits c (load_by s c m.base m.bytes va).core (bare_of c) (steps m (asking (sized_in (bare_of c) va s Kind.Read)) ∷ [])
@@ -73,7 +74,7 @@ zero-plain b p m (n ∷ l) va = zero-plain b p n l (wrap (va + 8))
 
 -- a store leaves the state without a cache, and of the cache what its translations leave
 pub stored-bare : (c : Core) (m : Ram) (va : ℕ) → bare_of (write_of c m.base m.bytes va 8).core ≡ bare_of c
-stored-bare c m va = Laws.kept c m.base m.bytes (Laws.store va 8 0)
+stored-bare c m va = Proved.kept c m.base m.bytes (Laws.store va 8 0)
 
 pub stored-tlb : (c : Core) (m : Ram) (va : ℕ)
     → (write_of c m.base m.bytes va 8).core.tlb ≡ tlb_asks real (plain_in (bare_of c)) m (access_in (bare_of c) va 8 Kind.Write) c.tlb
