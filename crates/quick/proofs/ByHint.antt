@@ -1,5 +1,5 @@
 -- A translation that its hint serves, or that no hint serves, on plain values.
-use Rattle.std.specs.Prelude.{if◌then◌else◌, ◌≡◌, Bool, true, false, List, ℕ, Option, Some, None, Ok}
+use Rattle.std.specs.Prelude.{if◌then◌else◌, ◌≡◌, Bool, true, false, ℕ, Option, Some, None, Ok}
 use Rattle.std.proofs.Common.{refl, sym, ap, ◌∙◌, subst}
 use Rattle.tlb.specs.Answers.{Answer}
 use Rattle.tlb.specs.Translate.{hint_in}

@@ -6,3 +6,4 @@ mod Fetching
 mod Checks
 mod Setting
 mod Line
+mod Hinting

@@ -2,6 +2,7 @@
 // The calls on a core that is lent, each in the shape that costs least: the hint on scalars first, and what it does not
 // serve out of line. Each gives the call's number, and in `ans` its value.
 pub mod fetch;
+mod hint;
 mod instance;
 pub mod load;
 pub mod settings;
