@@ -7,3 +7,4 @@ mod Fetching
 mod Checks
 mod Setting
 mod Line
+mod Hinting

@@ -1,18 +1,20 @@
 // One translation on a core that is lent, and where a data read goes: the number, and the address in ans. Both are one
 // text: TELLS says whether a fault is told by its status, or as no more than that.
-ghost use Rattle.std.specs.Prelude.{◌≡◌, ℕ, None};
+ghost use Rattle.std.specs.Prelude.{◌≡◌, ℕ, length, None, Ok};
 ghost use Rattle.word.specs.Ram.{word_at};
 ghost use Rattle.tlb.specs.Translate.{hint_in};
 ghost use Rattle.cpu.specs.Ends.{reached_by};
 ghost use Rattle.cpu.specs.Replies.{reaching};
 ghost use Rattle.cpu.specs.declared.call.Call.TheVariants as Call;
+ghost use Rattle.tlb.specs.declared.access.Kind.TheVariants.{Read};
 ghost use Rattle.call_words.specs.Ops.{kind_of, translate_call};
 ghost use Rattle.call_words.specs.Replies.{code_by, value_by};
 ghost use Rattle.cpu.specs.Hand.{NeedsWalkNow};
 ghost use Rattle.cpu.specs.Memory.{translate_of};
 ghost use Rattle.cpu.specs.Step.{step_of};
-ghost use Rattle.quick.specs.Says.{Says, Tells, asked_reply, asked_run, ram_checked};
+ghost use Rattle.quick.specs.Says.{Says, Tells, asked_reply, asked_run, ram_checked, served};
 
+use crate::hint;
 use crate::instance::{Fetching, Purpose, Reading, Writing};
 use cpu::{Core, check};
 use fault::Fault;
@@ -59,8 +61,8 @@ fn by_walk<P: Purpose, const TELLS: bool>(
     told::<TELLS>(answer, ans)
 }
 
-// With stage 1 off, by an entry, or by a walk: each out of line of what comes before it, with six words to hand on.
-#[inline(never)]
+// With stage 1 off, by an entry, or by a walk, which is out of line.
+#[inline(always)]
 fn past_hint<P: Purpose, const TELLS: bool>(
     core: &mut Core,
     va: u64,
@@ -78,23 +80,6 @@ fn past_hint<P: Purpose, const TELLS: bool>(
     }
 }
 
-#[inline(always)]
-fn by_hint<P: Purpose, const TELLS: bool>(
-    core: &mut Core,
-    va: u64,
-    ans: &mut u64,
-    base: u64,
-    ram: &[u8],
-) -> u64
-    ensures { Tells (asked_run TELLS va (translate_of core.old (word_at base ram.now 8) va P.KIND))
-        ans.old result ans.new core.new }
-{
-    match core.tlb.by_hint(core.privilege, va, P::KIND) {
-        Some(pa) => told::<TELLS>(Ok(pa), ans),
-        None => past_hint::<P, TELLS>(core, va, ans, base, ram),
-    }
-}
-
 // A window that ends at 2^64 or past it: the checks by name.
 #[cold]
 #[inline(never)]
@@ -109,11 +94,15 @@ fn checked<P: Purpose, const TELLS: bool>(
         (asked_run TELLS va (translate_of core.old (word_at base ram.now 8) va P.KIND))) ans.old result ans.new core.new }
 {
     match check::with_ram(core.privilege.level, base, ram.len() as u64) {
-        Ok(()) => by_hint::<P, TELLS>(core, va, ans, base, ram),
+        Ok(()) => match core.tlb.by_hint(core.privilege, va, P::KIND) {
+            Some(pa) => told::<TELLS>(Ok(pa), ans),
+            None => past_hint::<P, TELLS>(core, va, ans, base, ram),
+        },
         Err(missed) => missed.number() as u64,
     }
 }
 
+// What is not served at once: the level and the window asked by name.
 #[inline(always)]
 fn asked<P: Purpose, const TELLS: bool>(
     core: &mut Core,
@@ -122,6 +111,7 @@ fn asked<P: Purpose, const TELLS: bool>(
     base: u64,
     ram: &[u8],
 ) -> u64
+    requires not_served { served core.old base (length ram.now) va (Ok P.KIND) ≡ None }
     ensures { Tells (ram_checked core.old base ram.now
         (asked_run TELLS va (translate_of core.old (word_at base ram.now 8) va P.KIND))) ans.old result ans.new core.new }
 {
@@ -130,22 +120,55 @@ fn asked<P: Purpose, const TELLS: bool>(
     } else if u64::MAX - (ram.len() as u64) < base {
         checked::<P, TELLS>(core, va, ans, base, ram)
     } else {
-        by_hint::<P, TELLS>(core, va, ans, base, ram)
+        past_hint::<P, TELLS>(core, va, ans, base, ram)
     }
+}
+
+#[inline(never)]
+fn data_asked(core: &mut Core, va: u64, ans: &mut u64, base: u64, ram: &[u8]) -> u64
+    requires not_served { served core.old base (length ram.now) va (Ok Read) ≡ None }
+    ensures { Tells (step_of core.old base ram.now (Call.DataPa va)) ans.old result ans.new core.new }
+{
+    asked::<Reading, false>(core, va, ans, base, ram)
 }
 
 /// Where a data read of va goes.
 pub fn data_pa(core: &mut Core, va: u64, ans: &mut u64, base: u64, ram: &[u8]) -> u64
     ensures { Tells (step_of core.old base ram.now (Call.DataPa va)) ans.old result ans.new core.new }
 {
-    asked::<Reading, false>(core, va, ans, base, ram)
+    match hint::served(core, va, 1, base, ram.len() as u64) {
+        Some(pa) => {
+            *ans = pa;
+            0
+        }
+        None => data_asked(core, va, ans, base, ram),
+    }
 }
 
 #[inline(always)]
 fn address<P: Purpose>(core: &mut Core, va: u64, ans: &mut u64, base: u64, ram: &[u8]) -> u64
+    requires not_served { served core.old base (length ram.now) va (Ok P.KIND) ≡ None }
     ensures { Tells (step_of core.old base ram.now (Call.Translate P.KIND va)) ans.old result ans.new core.new }
 {
     asked::<P, true>(core, va, ans, base, ram)
+}
+
+// By kind. Its arguments are those of the call in their order, so that it is jumped to.
+#[inline(never)]
+#[tactic(auto, unfolding(call_words::specs::Ops::translate_call))]
+fn kind_asked(core: &mut Core, va: u64, kind: u64, ans: &mut u64, base: u64, ram: &[u8]) -> u64
+    requires not_served { served core.old base (length ram.now) va (kind_of kind) ≡ None }
+    ensures { Says (translate_call (kind_of kind) va) core.old base ram.now ans.old result ans.new core.new }
+{
+    if kind == 1 {
+        address::<Reading>(core, va, ans, base, ram)
+    } else if kind == 2 {
+        address::<Writing>(core, va, ans, base, ram)
+    } else if kind == 4 {
+        address::<Fetching>(core, va, ans, base, ram)
+    } else {
+        64
+    }
 }
 
 /// The translation of va for an access of a kind: 1 read, 2 write, 4 fetch.
@@ -153,17 +176,11 @@ fn address<P: Purpose>(core: &mut Core, va: u64, ans: &mut u64, base: u64, ram: 
 pub fn translate(core: &mut Core, va: u64, kind: u64, ans: &mut u64, base: u64, ram: &[u8]) -> u64
     ensures { Says (translate_call (kind_of kind) va) core.old base ram.now ans.old result ans.new core.new }
 {
-    if kind < 2 {
-        if kind == 1 {
-            address::<Reading>(core, va, ans, base, ram)
-        } else {
-            64
+    match hint::served(core, va, kind, base, ram.len() as u64) {
+        Some(pa) => {
+            *ans = pa;
+            0
         }
-    } else if kind == 2 {
-        address::<Writing>(core, va, ans, base, ram)
-    } else if kind == 4 {
-        address::<Fetching>(core, va, ans, base, ram)
-    } else {
-        64
+        None => kind_asked(core, va, kind, ans, base, ram),
     }
 }
