@@ -133,7 +133,7 @@ module _ (past : List Step) (a : Apart fresh_bare past) (m : Ram) (r : Regime) (
   today : plain_run real (plain_in fresh_bare) (events fresh_bare past) ≡ plain_in (bare_run fresh_bare past)
   today = plain-many fresh_bare past a
 
-  settled-in-theory : Settled past m r p → SettledInTheory past m r p
+  pub settled-in-theory : Settled past m r p → SettledInTheory past m r p
   settled-in-theory h =
       record {
         holds = λ eb n t el split.
@@ -153,7 +153,7 @@ module _ (past : List Step) (a : Apart fresh_bare past) (m : Ram) (r : Regime) (
             c.ram old)));
       }
 
-  settled-in-claim : SettledInTheory past m r p → Settled past m r p
+  pub settled-in-claim : SettledInTheory past m r p → Settled past m r p
   settled-in-claim h =
       record {
         holds = λ before s later split ℓ on walk now us.

@@ -19,4 +19,4 @@ pub mod LevelCounts
 -- The bytes, and a worked list.
 pub mod Bytes
 pub mod Worked
-pub mod CoverRows
+pub mod PremiseRows

@@ -54,8 +54,11 @@ use Rattle.transparency.specs.Events.{plain_in}
 use Rattle.transparency.specs.Events.{does, asking, idle, setting}
 use Rattle.transparency.specs.Machine.{machine}
 use Rattle.transparency.specs.Faithful.{fed_by}
+use Rattle.transparency.specs.Claim.{SettledFor}
 use Rattle.transparency.proofs.Direct.{translate-after}
-use Rattle.transparency.specs.Worked.{table, lent, none, old, new, start}
+use Rattle.transparency.proofs.Claim.{settled-in-theory, settled-in-claim}
+use Rattle.transparency.proofs.Steps.{Apart}
+use Rattle.transparency.specs.Worked.{table, lent, none, old, new, start, tidied, steps_of}
 use Rattle.transparency.specs.Worked as Statement
 
 abbrev block : ℕ → ℕ → Leaf
@@ -174,6 +177,34 @@ start-unsettled st =
   where
     same : {x y : ℕ} → Value x ≡ Value y → x ≡ y
     same e = cc
+
+-- IN THE CLAIM'S OWN WORDS
+
+start-apart : Apart fresh_bare (steps_of start)
+unfolding zeros fresh_control fresh_sys banked_at register_at control_with sys_with write_reg missed_of
+start-apart = (refl, (refl, (refl, (refl, (refl, tt)))))
+
+tidied-apart : Apart fresh_bare (steps_of tidied)
+unfolding zeros fresh_control fresh_sys banked_at register_at control_with sys_with write_reg missed_of named decode_of bytes_of
+tidied-apart = (refl, (refl, (refl, (refl, (refl, (refl, (refl, (refl, tt))))))))
+
+claim-settled : SettledFor (steps_of tidied) new 0x40001234
+unfolding bytes_of set_reg fresh_core zeros fresh_control fresh_sys banked_at register_at control_with sys_with write_reg missed_of named decode_of scope_of what_of tlbi_of
+    untagged
+claim-settled =
+    settled-in-claim (steps_of tidied) tidied-apart new El1 0x40001 (steps-settled real (plain_in fresh_bare) events new El1 0x40001 step-by-step)
+
+pub claim-met : Statement.claim_met
+unfolding step_of run_of translate_of stepped_now translate_in after_access reg_of set_reg after_register_write applied_of with_regs refit_of retagged_of reshaped_of set_level
+    sys_of tlbi_core invalidated_of same_shape asid_of asid_base fresh_core zeros fresh_control fresh_sys banked_at register_at
+    control_with sys_with write_reg missed_of named decode_of scope_of what_of tlbi_of flush_of invalidate_of drop_page_of page_dropped get_of put_of
+    miss_in walked_in judged walk_of table_walk walk_range walk_from lookup_next level_next leaf_result leaf_translation leaf_permissions table_next
+    descaddr range_of params_of pa_size untagged word_at little_endian bytes_of place_of blanks no_hints
+claim-met = (claim-settled, refl, refl)
+
+pub claim-unmet : Statement.claim_unmet
+unfolding bytes_of set_reg fresh_core zeros fresh_control fresh_sys banked_at register_at control_with sys_with write_reg missed_of untagged
+claim-unmet h = start-unsettled (settled-in-theory (steps_of start) start-apart new El1 0x40001 h)
 
 pub counted-by-level : Statement.counted_by_level
 unfolding step_of run_of translate_of stepped_now fetch_pa_of fetch_stepped_now translate_fetch_in translate_in after_access

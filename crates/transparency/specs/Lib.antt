@@ -17,9 +17,9 @@ pub mod Direct
 pub mod Faithful
 pub mod Judged
 pub mod Faults
--- A worked list, and covering in numbers.
+-- A worked list, and the premise in numbers.
 pub mod Worked
-pub mod CoverRows
+pub mod PremiseRows
 -- The plain model of the cache, call by call.
 pub mod ModelCalls
 pub mod Counted

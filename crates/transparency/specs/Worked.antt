@@ -2,9 +2,11 @@
 -- fails where a table was changed without a TLBI.
 use Rattle.std.specs.Prelude.{◌≡◌, true, List, [], ◌∷◌, ◌++◌, ℕ, Some, Ok}
 use Rattle.word.specs.Ram.{bytes_of}
+use Rattle.tlb.specs.Asks.{translates}
 use Rattle.tlb.specs.Translate.{hint_in}
 use Rattle.tlb.specs.declared.access.Kind.TheVariants.{Read}
-use Rattle.cpu.specs.Bare.{bare_of}
+use Rattle.cpu.specs.Bare.{bare_of, fresh_bare}
+use Rattle.cpu.specs.Core.{fresh_core}
 use Rattle.cpu.specs.Step.{step_of}
 use Rattle.cpu.specs.declared.call.Call.{Call}
 use Rattle.cpu.specs.declared.call.Call.TheVariants.{Translate, FetchPa, Register, Level, Mark, General, System}
@@ -18,6 +20,9 @@ use Rattle.transparency.specs.Machine.{machine}
 use Rattle.transparency.specs.Beside.{core_after, bare_after}
 use Rattle.transparency.specs.Faithful.{fed_by}
 use Rattle.transparency.specs.Direct.{SettledAt}
+use Rattle.transparency.specs.Steps.{Step, core_run, bare_run}
+use Rattle.transparency.specs.Claim as Claim
+use Rattle.transparency.specs.Claim.{SettledFor, answers_of}
 
 -- RAM with this word at 0x1008: no table, a 1 GiB block at 0x80000000, one at 0xC0000000
 abbrev pub table : ℕ → Ram
@@ -79,6 +84,23 @@ start_stale =
 
 abbrev pub start_unsettled : Type 0
 start_unsettled = SettledAt (fed_by start) new 0x40001234 → ⊥
+
+-- IN THE CLAIM'S OWN WORDS (Claim.antt): after these steps its premise is met, the core makes one translation and answers
+-- it from the cache, and so does the core without one; without the TLBI the premise is not met.
+
+abbrev pub steps_of : List (Lent real machine) → List Step
+steps_of [] = []
+steps_of (x ∷ l) = record { ram = x.ram; call = x.call } ∷ steps_of l
+
+abbrev pub claim_met : Type 0
+claim_met =
+    SettledFor (steps_of tidied) new 0x40001234
+    × (answers_of (core_run fresh_core (steps_of tidied)) (record { ram = new; call = read })
+    ≡ record { ask = translates Read 0x40001234; answer = Ok 0xC0001234 } ∷ [])
+    × (Claim.uncached (bare_run fresh_bare (steps_of tidied)) new Read 0x40001234 ≡ Ok 0xC0001234)
+
+abbrev pub claim_unmet : Type 0
+claim_unmet = SettledFor (steps_of start) new 0x40001234 → ⊥
 
 -- THE COUNTERS BY LEVEL. EL1's first read was walked. Under the mark EL1 reads again: judged as EL0's it is refused by
 -- the entry, and that is a hit of EL1, not of EL0; a fetch under the mark, which is judged as EL1's, is another. Then

@@ -21,7 +21,8 @@ ghost use Rattle.transparency.specs.Census.{census_faults, rights_allow, flat_al
 ghost use Rattle.transparency.specs.Judged.{every_call_judged, every_row};
 ghost use Rattle.transparency.specs.Faults.{every_replied_fault};
 ghost use Rattle.transparency.specs.Worked.{tidied_settled, by_cache, start_stale, start_unsettled, counted_by_level};
-ghost use Rattle.transparency.specs.CoverRows.{all_rows, page_rows, bit_rows, asid_rows, write_rows};
+ghost use Rattle.transparency.specs.Worked.{claim_met, claim_unmet};
+ghost use Rattle.transparency.specs.PremiseRows.{all_rows, page_rows, bit_rows, asid_rows, write_rows, equal_rows};
 ghost use Rattle.transparency.specs.ModelCalls.{every_core_well, every_list_modelled, every_call_modelled};
 ghost use Rattle.transparency.specs.Counted.{EveryTlbi, EveryWrite};
 ghost use Rattle.transparency.specs.Counted.{translate_counted, data_pa_counted, fetch_pa_counted, fetch_counted};
@@ -163,24 +164,29 @@ pub fn every_fault()
 
 /// A worked list: with a TLBI of another page of the same block the page is settled and a hint answers, rightly;
 /// without it the core answers by the old table, and the page is not settled. Rules out a premise that nothing meets,
-/// or that all meet. And the counters by level after another list, under the mark and at two levels.
+/// or that all meet; so it is of the claim's own premise. And the counters by level after another list, under the mark and
+/// at two levels.
 pub fn worked_list()
     ensures settled { tidied_settled }
     ensures by_cache { by_cache }
     ensures stale { start_stale }
     ensures unsettled { start_unsettled }
+    ensures met { claim_met }
+    ensures unmet { claim_unmet }
     ensures by_level { counted_by_level }
 {}
 
 /// Which TLBI and which register write covers which earlier walk, in numbers: all walks; those of a page, and with a block
 /// of the 2 MiB or 1 GiB about it, by bits 55:12; those of an ASID that are not global; and at a change of shape. Rules
-/// out a premise by which an invalidation covers too little, so that it asks for more than the scope, or too much.
-pub fn covering_in_numbers()
+/// out a premise by which an invalidation covers too little, so that it asks for more than the scope, or too much. And
+/// which walks are equal: a walk under another descriptor is, so that the premise does not ask for the same one.
+pub fn premise_in_numbers()
     ensures all { all_rows }
     ensures pages { page_rows }
     ensures bits { bit_rows }
     ensures asids { asid_rows }
     ensures writes { write_rows }
+    ensures equal { equal_rows }
 {}
 
 /// Every core that calls reach is well-formed: a level of 3 at most, the cache's invariant, the ASID of its registers;

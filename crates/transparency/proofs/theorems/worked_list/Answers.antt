@@ -1,4 +1,4 @@
-use Rattle.transparency.proofs.Worked.{tidied-settled, by-cache, start-stale, start-unsettled, counted-by-level}
+use Rattle.transparency.proofs.Worked.{tidied-settled, by-cache, start-stale, start-unsettled, counted-by-level, claim-met, claim-unmet}
 use Rattle.transparency.proofs.theorems.worked_list.Goals as goal
 
 pub returns-clause-settled : goal.returns-clause-settled
@@ -15,3 +15,9 @@ returns-clause-unsettled c = start-unsettled
 
 pub returns-clause-by_level : goal.returns-clause-by_level
 returns-clause-by_level c = counted-by-level
+
+pub returns-clause-met : goal.returns-clause-met
+returns-clause-met c = claim-met
+
+pub returns-clause-unmet : goal.returns-clause-unmet
+returns-clause-unmet c = claim-unmet

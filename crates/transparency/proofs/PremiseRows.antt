@@ -1,4 +1,4 @@
--- Covering in numbers: each row is computed.
+-- The premise in numbers: each row is computed.
 use Rattle.std.specs.Prelude.{refl, false, [], ◌∷◌}
 use Rattle.std.proofs.Common.{true≢false}
 use Rattle.std.proofs.lemmas.Bool.{eqb-false}
@@ -15,8 +15,8 @@ use Rattle.cpu.specs.Bare.{zeros}
 use Rattle.cpu.specs.Check.{missed_of}
 use Rattle.history.proofs.Lists.{each-head}
 use Rattle.transparency.specs.Claim.{Covers}
-use Rattle.transparency.specs.CoverRows.{Was, was, leaf_of}
-use Rattle.transparency.specs.CoverRows as Statement
+use Rattle.transparency.specs.PremiseRows.{Was, was, leaf_of}
+use Rattle.transparency.specs.PremiseRows as Statement
 
 taken : (v : Inval) (w : Was) → Covers v w.page (leaf_of w) w.asid → Each (λ u. Covers u w.page (leaf_of w) w.asid → ⊥) (v ∷ []) → ⊥
 taken v w h e = each-head e h
@@ -60,3 +60,11 @@ asid-rows = (
 pub write-rows : Statement.write_rows
 unfolding zeros fresh_control fresh_sys banked_at register_at control_with sys_with write_reg missed_of same_shape asid_of asid_base
 write-rows = (taken All _ tt, taken All _ tt, done, done)
+
+pub equal-rows : Statement.equal_rows
+equal-rows = (
+  record { pages = refl; perms = refl; levels = refl },
+  λ e. eqb-false _ _ refl e.pages,
+  λ e. eqb-false _ _ refl e.perms,
+  λ e. eqb-false _ _ refl e.levels,
+)

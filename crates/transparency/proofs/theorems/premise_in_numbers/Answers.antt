@@ -1,5 +1,5 @@
-use Rattle.transparency.proofs.CoverRows.{all-rows, page-rows, bit-rows, asid-rows, write-rows}
-use Rattle.transparency.proofs.theorems.covering_in_numbers.Goals as goal
+use Rattle.transparency.proofs.PremiseRows.{all-rows, page-rows, bit-rows, asid-rows, write-rows, equal-rows}
+use Rattle.transparency.proofs.theorems.premise_in_numbers.Goals as goal
 
 pub returns-clause-all : goal.returns-clause-all
 returns-clause-all c = all-rows
@@ -15,3 +15,6 @@ returns-clause-asids c = asid-rows
 
 pub returns-clause-writes : goal.returns-clause-writes
 returns-clause-writes c = write-rows
+
+pub returns-clause-equal : goal.returns-clause-equal
+returns-clause-equal c = equal-rows

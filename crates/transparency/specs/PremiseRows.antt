@@ -1,5 +1,6 @@
--- COVERING IN NUMBERS: which TLBI and which register write covers which earlier walk, row by row. Each row is a call of
--- EL1 with its operand, and what it makes of a walk: computed by `Covers` and `drops_of`, which the rows judge.
+-- THE PREMISE IN NUMBERS: which TLBI and which register write covers which earlier walk, and which walks are equal, row by
+-- row. A row of covering is a call of EL1 with its operand, and what it makes of a walk: computed by `Covers` and `drops_of`,
+-- which the rows judge.
 use Rattle.std.specs.Prelude.{true, false, Bool, [], ◌∷◌, ℕ}
 use Rattle.walk.specs.declared.level.Leaf.{Leaf}
 use Rattle.tlb.specs.Lists.{Each}
@@ -8,7 +9,7 @@ use Rattle.cpu.specs.declared.call.Call.{Call}
 use Rattle.cpu.specs.declared.call.Call.TheVariants.{System, Register, Level, General}
 use Rattle.history.specs.Window.{window_of}
 use Rattle.transparency.specs.Steps.{Step, bare_run}
-use Rattle.transparency.specs.Claim.{Covers, drops_run}
+use Rattle.transparency.specs.Claim.{Covers, EqualLeaves, drops_run}
 
 -- a walk that ended in a leaf: its page, the leaf's level, whether it is global, and the ASID in force
 pub record Was : Type 0 where
@@ -96,3 +97,15 @@ write_rows =
     × Takes (with_operand 1 0) (Register 0xC102 0x19) (was 0x40001 1 false 5)
     × Spares (with_operand 1 0) (Register 0xC102 0x80000019) (was 0x40001 3 true 5)
     × Spares (with_operand 1 0) (Register 0xC100 0x0006_0000_0000_1000) (was 0x40001 3 false 5)
+
+-- EQUAL WALKS: whatever the descriptor, whether it is global, and the offset in the page; not where the page, the
+-- permission bits or the level differ.
+abbrev pub leaf : ℕ → ℕ → ℕ → Leaf
+leaf oa perms level = record { oa = oa; desc = 0x80000401; perms = perms; level = level; global = true }
+
+abbrev pub equal_rows : Type 0
+equal_rows =
+    EqualLeaves (leaf 0x80001234 0x3C 3) (record { oa = 0x80001FFF; desc = 0x80000C03; perms = 0x3C; level = 3; global = false })
+    × (EqualLeaves (leaf 0x80001234 0x3C 3) (leaf 0x80002234 0x3C 3) → ⊥)
+    × (EqualLeaves (leaf 0x80001234 0x3C 3) (leaf 0x80001234 0x3D 3) → ⊥)
+    × (EqualLeaves (leaf 0x80001234 0x3C 3) (leaf 0x80001234 0x3C 2) → ⊥)
