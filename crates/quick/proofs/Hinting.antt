@@ -10,7 +10,7 @@ use Rattle.tlb.specs.declared.{access.Kind.Kind, access.NoSuchKind.NoSuchKind, h
 use Rattle.cpu.specs.declared.Core.{Core}
 use Rattle.tlb.specs.Translate.{hint_in}
 use Rattle.word.specs.Ram.{word_at}
-use Rattle.operations.specs.declared.call.Call.TheVariants.{DataPa}
+use Rattle.cpu.specs.declared.call.Call.TheVariants.{DataPa}
 use Rattle.cpu.specs.Memory.{translate_of}
 use Rattle.cpu.specs.Step.{step_of}
 use Rattle.call_words.specs.Ops.{kind_of, translate_call}
