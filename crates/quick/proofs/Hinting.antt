@@ -24,12 +24,13 @@ unfolding place_of
 low va = omega arith
 
 -- three tests, and the level's and mark's as one number
-all : (a f e : Bool) (x : ℕ) → then_some (((true && a) && f) && e) x ≡ (if a && f then (if e then Some x else None) else None)
+all : (a f e : Bool) (x : ℕ) → then_some (true && (e && (a && f))) x ≡ (if a && f then (if e then Some x else None) else None)
 all true true true x = refl
 all true true false x = refl
 all true false true x = refl
 all true false false x = refl
-all false f e x = refl
+all false f true x = refl
+all false f false x = refl
 
 abbrev nothing : Option ℕ
 nothing = None
@@ -38,14 +39,15 @@ never : (b : Bool) → (if b then nothing else nothing) ≡ nothing
 never true = refl
 never false = refl
 
-asked : (level key page x : ℕ) (f u : Bool) → then_some (((true && leb (level + bool_byte u * 256) 3) && f) && eqb key (page + (level + bool_byte u * 256))) x
+asked : (level key page x : ℕ) (f u : Bool) → then_some (true && (eqb key (page + (level + bool_byte u * 256)) && (leb (level + bool_byte u * 256) 3 && f))) x
     ≡ (if leb level 3 && f then (if not u then (if eqb key (page + level) then Some x else None) else None) else None)
 asked level key page x f true =
     let over : leb (level + 1 * 256) 3 ≡ false = lt-leb (level + 1 * 256) 3 (omega arith) in
-    rw over (sym (never (leb level 3 && f)))
+    let same : Bool = eqb key (page + (level + 1 * 256)) in
+    ap (λ (b : Bool). then_some (true && (same && (b && f))) x) over ∙ all false f same x ∙ sym (never (leb level 3 && f))
 asked level key page x f false =
     let same : level + 0 * 256 ≡ level = omega arith in
-    ap (λ (n : ℕ). then_some (((true && leb n 3) && f) && eqb key (page + n)) x) same ∙ all (leb level 3) f (eqb key (page + level)) x
+    ap (λ (n : ℕ). then_some (true && (eqb key (page + n) && (leb n 3 && f))) x) same ∙ all (leb level 3) f (eqb key (page + level)) x
 
 module _ (c : Core) (va base len s : ℕ) (es : s ≡ data_slot va Read) where
   abbrev hint : ℕ → Hint
@@ -61,7 +63,7 @@ module _ (c : Core) (va base len s : ℕ) (es : s ≡ data_slot va Read) where
   fits = leb base (2 ^ 64 - 1 - len)
 
   abbrev at : Bool → ℕ → ℕ → Option ℕ
-  at known i page = then_some (((known && leb asker 3) && fits) && eqb (hint i).key (page + asker)) (on_page (hint i).pa va)
+  at known i page = then_some (known && (eqb (hint i).key (page + asker) && (leb asker 3 && fits))) (on_page (hint i).pa va)
 
   -- of a read or a write, whose place is i
   placed : (i : ℕ) → at true i (va - va % 4096) ≡ (if plain c base len then (if not c.privilege.unprivileged then (if eqb (hint i).key (va / 4096 * 4096 + c.privilege.level) then Some (on_page (hint i).pa va) else None) else None) else None)
@@ -101,7 +103,7 @@ module _ (c : Core) (va base len s : ℕ) (es : s ≡ data_slot va Read) where
   reads kind false e1 = writes kind (eqb kind 2) refl e1
 
   abbrev by : ℕ → Hint → ℕ → Option ℕ
-  by kind h pa = then_some ((((eqb kind 1 || eqb kind 2) && leb asker 3) && fits) && eqb h.key (va - va % 4096 + asker)) pa
+  by kind h pa = then_some ((eqb kind 1 || eqb kind 2) && (eqb h.key (va - va % 4096 + asker) && (leb asker 3 && fits))) pa
 
   pub serves : (kind : ℕ) (h : Hint) (pa : ℕ) → h ≡ found kind → pa ≡ on_page h.pa va → by kind h pa ≡ served c base len va (kind_of kind)
   serves kind h pa eh ep = ap (by kind h) ep ∙ ap (λ (x : Hint). by kind x (on_page x.pa va)) eh ∙ reads kind (eqb kind 1) refl

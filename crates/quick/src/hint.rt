@@ -28,8 +28,6 @@ pub(crate) fn served(core: &Core, va: u64, kind: u64, base: u64, len: u64) -> Op
     let slot = hint::data_slot(va, Kind::Read) + (kind / 2 % 2) as usize * hint::DATA_HINTS;
     let found = hint_at(core, slot);
     let serves = ((kind == 1) | (kind == 2))
-        & (asker <= 3)
-        & (base <= u64::MAX - len)
-        & (found.key == va - va % 4096 + asker);
+        & ((found.key == va - va % 4096 + asker) & ((asker <= 3) & (base <= u64::MAX - len)));
     serves.then_some(hint::on_page(found.pa, va))
 }

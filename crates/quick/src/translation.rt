@@ -102,8 +102,8 @@ fn checked<P: Purpose, const TELLS: bool>(
     }
 }
 
-// What is not served at once: the level and the window asked by name.
-#[inline(always)]
+// What is not served at once: the level, the window, and past the hint.
+#[inline(never)]
 fn asked<P: Purpose, const TELLS: bool>(
     core: &mut Core,
     va: u64,
@@ -124,7 +124,7 @@ fn asked<P: Purpose, const TELLS: bool>(
     }
 }
 
-#[inline(never)]
+#[inline(always)]
 fn data_asked(core: &mut Core, va: u64, ans: &mut u64, base: u64, ram: &[u8]) -> u64
     requires not_served { served core.old base (length ram.now) va (Ok Read) ≡ None }
     ensures { Tells (step_of core.old base ram.now (Call.DataPa va)) ans.old result ans.new core.new }
