@@ -174,15 +174,19 @@ module _ (what : Inval) (e : Entry) (d : Bool) (q : (r : Regime) → covers what
   tag-drops (suc (suc zero)) = dropped El2
   tag-drops (suc (suc (suc n))) = dropped El3
 
-  drops : (g : ℕ) → e.generation ≡ g → line_of g (if d then untagged e else e) ≡ uncovered what (line_of g e)
+  -- of the generation or of another
+  either : (b : Bool) (x y : Slot Line) → uncovered what y ≡ x → (if b then x else empty) ≡ uncovered what (if b then y else empty)
+  either true x y e = sym e
+  either false x y e = refl
+
+  drops : (g : ℕ) → line_of g (if d then untagged e else e) ≡ uncovered what (line_of g e)
   unfolding line_of
-  drops g f = rw (eq-eqb _ _ f) (go d refl)
+  drops g = go d (tag-drops (e.tag % 4))
     where
-      go : (b : Bool) → d ≡ b
-          → if (if d then untagged e else e).generation == g then tagged ((if d then untagged e else e).tag % 4) (if d then untagged e else e) else empty
-          ≡ uncovered what (tagged (e.tag % 4) e)
-      go true w = rw (w, eq-eqb _ _ f) (sym (tag-drops (e.tag % 4) ∙ rw w))
-      go false w = rw (w, eq-eqb _ _ f) (sym (tag-drops (e.tag % 4) ∙ rw w))
+      go : (b : Bool) → uncovered what (tagged (e.tag % 4) e) ≡ (if b then empty else tagged (e.tag % 4) e)
+          → line_of g (if b then untagged e else e) ≡ uncovered what (line_of g e)
+      go true w = either (e.generation == g) _ _ w
+      go false w = either (e.generation == g) _ _ w
 
 -- an entry of another generation is no line, before and after
 pub none_before : (g : ℕ) (e : Entry) → (e.generation ≢ g) → line_of g e ≡ empty
@@ -197,24 +201,16 @@ page-drops g page e = go (e.generation == g) refl
     same = e.tag / 4 % 2 ^ 44 / 2 ^ span_of e.level == page % 2 ^ 44 / 2 ^ span_of e.level
 
     go : (b : Bool) → (e.generation == g) ≡ b → line_of g (page_dropped g page e) ≡ uncovered (Page page) (line_of g e)
-    go true f = rw f (drops (Page page) e same (λ r. rw span-is) g (eqb-true _ _ f))
+    go true f = rw f (drops (Page page) e same (λ r. rw span-is) g)
     go false f = rw (f, none_before g e (eqb-false _ _ f))
 
 pub asid-drops : (g asid : ℕ) (e : Entry) → line_of g (asid_dropped asid e) ≡ uncovered (Asid asid) (line_of g e)
 unfolding asid_dropped
-asid-drops g asid e = go (e.generation == g) refl
+asid-drops g asid e = drops (Asid asid) e _ (λ r. own e.global) g
   where
     own : (b : Bool) → belongs_to (reach_of b e.asid) asid ≡ (not b && e.asid == asid)
     own true = refl
     own false = refl
-
-    stale : (b : Bool) → (e.generation ≢ g) → line_of g (if b then untagged e else e) ≡ empty
-    stale true ne = none_before g (untagged e) ne
-    stale false ne = none_before g e ne
-
-    go : (b : Bool) → (e.generation == g) ≡ b → line_of g (asid_dropped asid e) ≡ uncovered (Asid asid) (line_of g e)
-    go true f = drops (Asid asid) e _ (λ r. own e.global) g (eqb-true _ _ f)
-    go false f = stale (not e.global && e.asid == asid) (eqb-false _ _ f) ∙ rw (none_before g e (eqb-false _ _ f))
 
 -- a flush: no entry that is there is of the next generation
 pub all-covered : (s : Slot Line) → uncovered All s ≡ empty

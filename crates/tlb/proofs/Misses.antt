@@ -18,20 +18,10 @@ use Rattle.tlb.specs.Tlb.{entry_at, get_of}
 use Rattle.tlb.specs.Translate.{tag_in, walked_in, looked_in, miss_in}
 use Rattle.tlb.specs.declared.{entry.Entry.Entry, count.Tally.Tally, Tlb.Tlb}
 use Rattle.tlb.proofs.Levels.{hit-counted, walk-counted}
-use Rattle.tlb.proofs.Refines.{blank-made, page-is, line-is, put-live, put-sound}
+use Rattle.tlb.proofs.Refines.{well, blank-made, page-is, line-is, put-live, put-sound}
 
 tally-well : (t : Tlb) (i : ℕ) (n : Tally) → WellFormed t → WellFormed (with_tally t i n)
-tally-well t i n s =
-    record {
-      first = s.first;
-      last = s.last;
-      slots = s.slots;
-      places = s.places;
-      levels = length-set t.levels i n ∙ s.levels;
-      entries = s.entries;
-      hints = s.hints;
-      fetch = s.fetch;
-    }
+tally-well t i n s = well _ s.first s.last s.slots s.places (length-set t.levels i n ∙ s.levels) s.entries s.hints s.fetch
 
 -- the code's test of a flat address is the model's
 pub flat-is : (u : ℕ) → flat_answer u ≡ flat u
@@ -76,15 +66,7 @@ module _ (a : Access) (t : Tlb) (s : WellFormed t) (fits : LeafLevel a.walk) (lo
   leaf-line : (leaf : Leaf) → line_in a.regime (made leaf) ≡ line_of_leaf leaf a t.asid
   leaf-line leaf =
       let framed : leaf.oa / 4096 * 4096 / 4096 ≡ leaf.oa / 4096 = omega arith in
-      λ n.
-      record {
-        page = page-is a.regime (a.untagged / 4096) n;
-        regime = a.regime;
-        frame = framed n;
-        perms = leaf.perms;
-        level = leaf.level;
-        reach = reach_of leaf.global t.asid;
-      }
+      λ n. record (line_of_leaf leaf a t.asid) { page = page-is a.regime (a.untagged / 4096) n; frame = framed n }
 
   walk-follows : (w : Walked) → a.walk ≡ w → Follows (walked_in w a t) (walked w a (live t))
   unfolding walked_in walked

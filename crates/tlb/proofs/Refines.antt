@@ -11,7 +11,7 @@ use Rattle.tlb.specs.Hint.{no_hint}
 use Rattle.tlb.specs.Lists.{Each}
 use Rattle.tlb.proofs.Lists.{each_map, each-imp, each_set, each-getD, each-replicate, replicate-at, get_d_set}
 use Rattle.tlb.specs.Count.{more, no_tally, no_tallies}
-use Rattle.tlb.specs.Tlb.{blanks, no_hints, fresh, entry_at, hintless, next_generation, get_of, put_of, flush_of, drop_page_of, drop_asid_of}
+use Rattle.tlb.specs.Tlb.{blanks, no_hints, fresh, entry_at, hintless, next_generation, put_of, flush_of, drop_page_of, drop_asid_of}
 use Rattle.tlb.specs.Tlb.{retag_of, invalidate_of, same_inval, pending_after, broadcast_of}
 use Rattle.sysreg.specs.Regs.{index_of}
 use Rattle.tlb.specs.Model.{Slot, empty, holds, Line, empty_model, uncovered, invalidate, retag, equal, joined, broadcast, serving, line_for, keep}
@@ -19,6 +19,10 @@ use Rattle.tlb.specs.Live.{line_in, line_of, hint_of, fetch_hint_of, pending_of,
 use Rattle.tlb.proofs.Cells.{if-ap, same-pick, regime-low, found, line_made, page-drops, asid-drops, all-covered, flush-drops}
 use Rattle.tlb.specs.declared.{entry.Entry.Entry, hint.Hint.Hint, Tlb.Tlb, Inval.Inval}
 use Rattle.tlb.specs.declared.Inval.TheVariants.{All, Page, Asid}
+
+pub well : (t : Tlb) → 1 ≤ t.generation → t.generation < 2 ^ 32 → length t.entries ≡ 1024 → length t.hints ≡ 512 → length t.levels ≡ 4
+    → Each (Made t.generation) t.entries → Each Aligned t.hints → FetchAligned t.fetch → WellFormed t
+well t a b c d e f g h = record { first = a; last = b; slots = c; places = d; levels = e; entries = f; hints = g; fetch = h }
 
 -- WITHOUT HINTS
 
@@ -137,44 +141,33 @@ wrapped t = record (hintless t) { flushes = more t.flushes; generation = 1; entr
 abbrev advanced : Tlb → Tlb
 advanced t = record (hintless t) { flushes = more t.flushes; generation = t.generation + 1 }
 
-flush-wraps : (t : Tlb) → (next_generation t.generation == 0) ≡ true → flush_of t ≡ wrapped t
-unfolding flush_of
-flush-wraps t f = rw f
-
-flush-next : (t : Tlb) → WellFormed t → (next_generation t.generation == 0) ≡ false → flush_of t ≡ advanced t
-unfolding flush_of
-flush-next t s f =
-    let ne : next_generation t.generation ≡ 0 → ⊥ = eqb-false _ _ f in
-    let below : t.generation < 2 ^ 32 = s.last in
-    let n : next_generation t.generation ≡ t.generation + 1 = omega arith in
-    rw (f, n)
-
 module _ (t : Tlb) (s : WellFormed t) where
+  flushed : (P : Tlb → Type 0) → P (wrapped t) → (t.generation + 1 < 2 ^ 32 → P (advanced t)) → P (flush_of t)
+  unfolding flush_of
+  flushed P w a = go (next_generation t.generation == 0) refl
+    where
+      go : (b : Bool) → (next_generation t.generation == 0) ≡ b → P (flush_of t)
+      go true f = rw f w
+      go false f =
+          let ne : next_generation t.generation ≡ 0 → ⊥ = eqb-false _ _ f in
+          let below : t.generation < 2 ^ 32 = s.last in
+          let n : next_generation t.generation ≡ t.generation + 1 = omega arith in
+          rw (f, n) (a (omega arith))
+
   pub flush-live : live (flush_of t) ≡ invalidate All (live t)
   unfolding invalidate lines_of
-  flush-live = go (next_generation t.generation == 0) refl
+  flush-live =
+      flushed (λ u. live u ≡ invalidate All (live t))
+      (cleared-live (wrapped t) refl refl _ (λ i. blank-lines i ∙ sym (all-covered ((live t).lines i))))
+      (λ h. cleared-live (advanced t) refl refl _ (λ i. emptied i ∙ sym (all-covered ((live t).lines i))))
     where
       emptied : (i : ℕ) → lines_of (t.generation + 1) t.entries i ≡ empty
       emptied i = flush-drops _ _ (each-getD {P = Made t.generation} blank (blank-made _) s.entries i).early
 
-      go : (b : Bool) → (next_generation t.generation == 0) ≡ b → live (flush_of t) ≡ invalidate All (live t)
-      go true f =
-          rw (flush-wraps t f)
-          (cleared-live (wrapped t) refl refl (λ i. uncovered All ((live t).lines i)) (λ i. blank-lines i ∙ sym (all-covered ((live t).lines i))))
-      go false f =
-          rw (flush-next t s f)
-          (cleared-live (advanced t) refl refl (λ i. uncovered All ((live t).lines i)) (λ i. emptied i ∙ sym (all-covered ((live t).lines i))))
-
   pub flush-sound : WellFormed (flush_of t)
-  flush-sound = go (next_generation t.generation == 0) refl
-    where
-      go : (b : Bool) → (next_generation t.generation == 0) ≡ b → WellFormed (flush_of t)
-      go true f = rw (flush-wraps t f) (cleared-well (wrapped t) refl refl (omega arith) (omega arith) blanks-long s.levels (blanks-made 1))
-      go false f =
-          let ne : next_generation t.generation ≡ 0 → ⊥ = eqb-false _ _ f in
-          let below : t.generation < 2 ^ 32 = s.last in
-          rw (flush-next t s f)
-          (cleared-well (advanced t) refl refl (omega arith) (omega arith) s.slots s.levels (each-imp (older t.generation) s.entries))
+  flush-sound =
+      flushed WellFormed (cleared-well (wrapped t) refl refl (omega arith) (omega arith) blanks-long s.levels (blanks-made 1))
+      (λ h. cleared-well (advanced t) refl refl (omega arith) h s.slots s.levels (each-imp (older t.generation) s.entries))
 
   pub page-live : (page : ℕ) → live (drop_page_of t page) ≡ invalidate (Page page) (live t)
   unfolding drop_page_of invalidate
@@ -248,30 +241,11 @@ joined_is (Some earlier) what = go (same_inval earlier what) refl
 
 pub broadcast-live : (t : Tlb) (what : Inval) → live (broadcast_of t what) ≡ broadcast what (live t)
 unfolding broadcast_of broadcast
-broadcast-live t what =
-    λ n.
-    record {
-      asid = t.asid;
-      lines = (live t).lines;
-      hints = (live t).hints;
-      fetch = (live t).fetch;
-      counts = (live t).counts;
-      pending = joined_is t.broadcast what n;
-    }
+broadcast-live t what = λ n. record (live t) { pending = joined_is t.broadcast what n }
 
 pub broadcast-sound : (t : Tlb) (what : Inval) → WellFormed t → WellFormed (broadcast_of t what)
 unfolding broadcast_of
-broadcast-sound t what s =
-    record {
-      first = s.first;
-      last = s.last;
-      slots = s.slots;
-      places = s.places;
-      levels = s.levels;
-      entries = s.entries;
-      hints = s.hints;
-      fetch = s.fetch;
-    }
+broadcast-sound t what s = well _ s.first s.last s.slots s.places s.levels s.entries s.hints s.fetch
 
 -- LINES
 
@@ -282,11 +256,6 @@ slot_is r p = omega (arith, regime-low r)
 pub page-is : (r : Regime) (p : ℕ) → (p * 4 + index_of r) / 4 ≡ p
 page-is r p = omega (arith, regime-low r)
 
--- what a look-up in a regime found, as a line
-abbrev pub found_in : Regime → Option Entry → Slot Line
-found_in r (Some e) = holds (line_in r e)
-found_in r None = empty
-
 pub line-is : (t : Tlb) (r : Regime) (p : ℕ)
     → line_for (live t) r p
     ≡ (if serves (entry_at t (slot_of (p * 4 + index_of r))) t (p * 4 + index_of r) then holds (line_in r (entry_at t (slot_of (p * 4 + index_of r))))
@@ -296,12 +265,6 @@ line-is t r p =
     ap (λ (i : ℕ). serving t.asid r p (line_of t.generation (slice_index_or t.entries i blank)))
     (sym (slot_is r p))
     ∙ found t r p (entry_at t (slot_of (p * 4 + index_of r)))
-
-pub get-live : (t : Tlb) (r : Regime) (p : ℕ) → found_in r (get_of t (p * 4 + index_of r)) ≡ line_for (live t) r p
-unfolding get_of
-get-live t r p =
-    let e = entry_at t (slot_of (p * 4 + index_of r)) in
-    if-ap (found_in r) (serves e t (p * 4 + index_of r)) (Some e) None ∙ sym (line-is t r p)
 
 -- an entry of a regime's page, put into its slot in the present generation
 pub kept-lines : (g p : ℕ) (r : Regime) (es : List Entry) (e : Entry) → length es ≡ 1024 → e.generation ≡ g
@@ -316,16 +279,7 @@ kept-lines g p r es e long q w i =
 module _ (t : Tlb) (s : WellFormed t) (r : Regime) (p : ℕ) (e : Entry) where
   pub put-live : e.tag ≡ p * 4 + index_of r → live (put_of t e) ≡ keep (line_in r e) (live t)
   unfolding put_of keep
-  put-live w =
-      λ n.
-      record {
-        asid = t.asid;
-        lines = λ i. kept-lines _ p r t.entries (stamped e t.generation) s.slots refl w i n;
-        hints = (live t).hints;
-        fetch = (live t).fetch;
-        counts = (live t).counts;
-        pending = (live t).pending;
-      }
+  put-live w = λ n. record (live t) { lines = λ i. kept-lines _ p r t.entries (stamped e t.generation) s.slots refl w i n }
 
   pub put-sound : e.pa % 4096 ≡ 0 → e.level ≤ 3 → WellFormed (put_of t e)
   unfolding put_of
@@ -333,13 +287,4 @@ module _ (t : Tlb) (s : WellFormed t) (r : Regime) (p : ℕ) (e : Entry) where
       let made : Made t.generation (stamped e t.generation) = record { early = omega arith; aligned = a; level = l } in
       let slots : length (slice_set t.entries (slot_of e.tag) (stamped e t.generation)) ≡ 1024 = length-set _ _ _ ∙ s.slots in
       let entries : Each (Made t.generation) (slice_set t.entries (slot_of e.tag) (stamped e t.generation)) = each_set _ made s.entries _ in
-      record {
-        first = s.first;
-        last = s.last;
-        slots = slots;
-        places = s.places;
-        levels = s.levels;
-        entries = entries;
-        hints = s.hints;
-        fetch = s.fetch;
-      }
+      well _ s.first s.last slots s.places s.levels entries s.hints s.fetch

@@ -16,7 +16,7 @@ use Rattle.tlb.specs.Translate.{miss_in, noted_in, tried_in, translation_in, fet
 use Rattle.tlb.specs.declared.{access.Kind.Kind, access.Privilege.Privilege, hint.Hint.Hint, hint.FetchHint.FetchHint, Tlb.Tlb}
 use Rattle.tlb.specs.declared.access.Kind.TheVariants.{Read, Write, Fetch}
 use Rattle.tlb.proofs.Misses.{miss-follows}
-use Rattle.tlb.proofs.Refines.{falsely}
+use Rattle.tlb.proofs.Refines.{well, falsely}
 
 -- HINTS
 
@@ -47,16 +47,7 @@ module _ (a : Access) (low : a.privilege.level ≤ 3) where
   hint-well pa t s =
       let places : length (slice_set t.hints place (left pa)) ≡ 512 = length-set t.hints place (left pa) ∙ s.places in
       let hints : Each Aligned (slice_set t.hints place (left pa)) = each_set (left pa) (omega arith) s.hints place in
-      record {
-        first = s.first;
-        last = s.last;
-        slots = s.slots;
-        places = places;
-        levels = s.levels;
-        entries = s.entries;
-        hints = hints;
-        fetch = s.fetch;
-      }
+      well _ s.first s.last s.slots places s.levels s.entries hints s.fetch
 
   hint-kept : (pa : ℕ) (t : Tlb) → WellFormed t → place < 512 → live (with_hint pa t) ≡ keep_hint place (known_of a pa) (live t)
   unfolding hints_of
@@ -128,17 +119,7 @@ module _ (a : Access) (t : Tlb) (s : WellFormed t) (fits : LeafLevel a.walk) (lo
   -- FETCHES
 
   fetch-well : (pa : ℕ) (u : Tlb) → WellFormed u → WellFormed (record u { fetch = Some (fetch_for a.va a.privilege.level pa) })
-  fetch-well pa u f =
-      record {
-        first = f.first;
-        last = f.last;
-        slots = f.slots;
-        places = f.places;
-        levels = f.levels;
-        entries = f.entries;
-        hints = f.hints;
-        fetch = (omega arith, omega arith);
-      }
+  fetch-well pa u f = well _ f.first f.last f.slots f.places f.levels f.entries f.hints (omega arith, omega arith)
 
   fetch-noted : (o : Outcome Tlb) (p : Outcome Model) → Follows o p → Follows (fetch_noted a o) (noted keep_fetch a p)
   unfolding noted
