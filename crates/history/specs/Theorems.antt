@@ -123,10 +123,11 @@ settled_by_asid =
     (past : History) (m : Ram) (r : Regime) (p : ℕ) → Own real fresh_plain past m r p
     → Settled real fresh_plain past m r p
 
--- an invalidation covers a walk just where the plain model drops the line that the walk left: no fewer walks, and no more
+-- an invalidation covers a walk just where the plain model drops the line that the walk left: no fewer, and no more
 abbrev pub covered_as_dropped : Type 0
 covered_as_dropped =
-    (v : Inval) (ℓ : Leaf) (a : Access) (asid : ℕ) → covers v (a.untagged / 4096) ℓ asid ≡ drops_line v (line_of_leaf ℓ a asid)
+    (v : Inval) (ℓ : Leaf) (a : Access) (asid : ℕ)
+    → covers v (a.untagged / 4096) ℓ asid ≡ drops_line v (line_of_leaf ℓ a asid)
 
 -- NEIGHBOURS: histories that come to the same registers, level and mark, and leave the address's page to one ASID, give
 -- it one answer, on RAMs of one window that agree on the bytes of each descriptor that its walk fetches.

@@ -55,8 +55,9 @@ pub fn every_count()
 {}
 
 /// Ways to show that a page is settled: stage 1 is off, the premise holds step by step, or the history leaves the page
-/// to the ASID of now. An invalidation covers the walks whose lines the plain model drops. Rules out a premise that asks
-/// for more than the walks which could still be in the cache, and a covering that is narrower than the invalidation.
+/// to the ASID of now. An invalidation covers the walks whose lines the plain model drops. Rules out a premise that
+/// asks for more than the walks which could still be in the cache, and a covering that is narrower than the
+/// invalidation.
 pub fn settled_pages()
     ensures off { settled_when_off }
     ensures steps { settled_by_steps }

@@ -84,8 +84,8 @@ fn parts_fit(core: &Core)
     entries_long(&core.tlb.entries);
 }
 
-/// The numbers of a core are in the ranges of their types, and its lists as long as its arrays. A fact of every core: it
-/// reads the core and changes nothing.
+/// The numbers of a core are in the ranges of their types, and its lists as long as its arrays. A fact of every core:
+/// it reads the core and changes nothing.
 pub fn fits(core: &Core)
     ensures { Fits core.now }
 {

@@ -1,5 +1,5 @@
--- A status is a byte, of every core that its type allows: a walk's is below 24, a permission fault's is 0x0C or the level
--- of an entry, and an external abort's is 0x10. So a call's number is below 512.
+-- A status is a byte, of every core that its type allows: a walk's is below 24, a permission fault's is 0x0C or the
+-- level of an entry, and an external abort's is 0x10. So a call's number is below 512.
 use Rattle.std.specs.Prelude.{if◌then◌else◌, ◌≡◌, refl, true, false, Bool, List, [], ◌∷◌, length, ℕ, zero, suc, ◌^◌, ◌<◌, slice_index_or, slice_set, Option, Some, None, Ok, Err, bit_or}
 use Rattle.std.proofs.Common.{arith}
 use Rattle.std.proofs.lemmas.Nat.{or_of_8}

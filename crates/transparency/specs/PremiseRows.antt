@@ -1,6 +1,6 @@
--- THE PREMISE IN NUMBERS: which TLBI and which register write covers which earlier walk, and which walks are equal, row by
--- row. A row of covering is a call of EL1 with its operand, and what it makes of a walk: computed by `Covers` and `drops_of`,
--- which the rows judge.
+-- THE PREMISE IN NUMBERS: which TLBI and which register write covers which earlier walk, and which walks are equal, row
+-- by row. A row of covering is a call of EL1 with its operand, and what it makes of a walk: computed by `Covers` and
+-- `drops_of`, which the rows judge.
 use Rattle.std.specs.Prelude.{true, false, Bool, [], ◌∷◌, ℕ}
 use Rattle.walk.specs.declared.level.Leaf.{Leaf}
 use Rattle.tlb.specs.Lists.{Each}
@@ -56,7 +56,8 @@ all_rows =
     × Drops 0 0 (was 0xF_FFFF_FFFF_F012 1 true 0)
     × Spares (with_operand 0 0) (tlbi 0) (was 0x40001 3 false 5)
 
--- VAE1, VAAE1, VALE1 and VAALE1 cover the operand's page, whatever the ASID, and with a block the 2 MiB or 1 GiB about it.
+-- VAE1, VAAE1, VALE1 and VAALE1 cover the operand's page, whatever the ASID, and with a block the 2 MiB or 1 GiB about
+-- it.
 abbrev pub page_rows : Type 0
 page_rows =
     Drops 1 0x40001 (was 0x40001 3 false 5)
@@ -89,8 +90,8 @@ asid_rows =
     × Keeps 2 0x0005_0000_0004_0001 (was 0x40001 3 true 5)
     × Keeps 2 0x0005_0000_0004_0001 (was 0x40001 3 false 6)
 
--- A write that changes the shape (SCTLR_EL1.M is set) covers every walk; one of TCR_EL1 to what it is, and one of TTBR0_EL1
--- that brings another ASID, none.
+-- A write that changes the shape (SCTLR_EL1.M is set) covers every walk; one of TCR_EL1 to what it is, and one of
+-- TTBR0_EL1 that brings another ASID, none.
 abbrev pub write_rows : Type 0
 write_rows =
     Takes (with_operand 1 0) (Register 0xC080 1) (was 0x40001 3 true 5)
@@ -105,7 +106,8 @@ leaf oa perms level = record { oa = oa; desc = 0x80000401; perms = perms; level 
 
 abbrev pub equal_rows : Type 0
 equal_rows =
-    EqualLeaves (leaf 0x80001234 0x3C 3) (record { oa = 0x80001FFF; desc = 0x80000C03; perms = 0x3C; level = 3; global = false })
+    EqualLeaves (leaf 0x80001234 0x3C 3)
+    (record { oa = 0x80001FFF; desc = 0x80000C03; perms = 0x3C; level = 3; global = false })
     × (EqualLeaves (leaf 0x80001234 0x3C 3) (leaf 0x80002234 0x3C 3) → ⊥)
     × (EqualLeaves (leaf 0x80001234 0x3C 3) (leaf 0x80001234 0x3D 3) → ⊥)
     × (EqualLeaves (leaf 0x80001234 0x3C 3) (leaf 0x80001234 0x3C 2) → ⊥)

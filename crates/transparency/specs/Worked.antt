@@ -85,8 +85,8 @@ start_stale =
 abbrev pub start_unsettled : Type 0
 start_unsettled = SettledAt (fed_by start) new 0x40001234 → ⊥
 
--- IN THE CLAIM'S OWN WORDS (Claim.antt): after these steps its premise is met, the core makes one translation and answers
--- it from the cache, and so does the core without one; without the TLBI the premise is not met.
+-- IN THE CLAIM'S OWN WORDS (Claim.antt): after these steps its premise is met, the core makes one translation and
+-- answers it from the cache, and the core without one answers the same; without the TLBI the premise is not met.
 
 abbrev pub steps_of : List (Lent real machine) → List Step
 steps_of [] = []

@@ -38,10 +38,10 @@ ghost use Rattle.transparency.specs.Bytes.{flat_load_after, flat_store_after, zv
 /// The claim for every history, as `specs/Claim.antt` states it: at each step of every list of calls, whatever RAM is,
 /// each translation of a settled page is answered as by the core without a cache, and where all pages of a step are
 /// settled so are its reply and RAM. A step's reply is made from its answers. The steps of a list, each store of a
-/// zeroing by itself, leave the core as its calls do; each begins on the RAM that the one before left, and the last of a
-/// call's replies, and leaves RAM, as the call does. A page is settled just where the theory of histories has it so. Rules
-/// out an entry or a hint that outlives its invalidation, a premise that asks for more than it says, and a zeroing shown by
-/// other RAM than its own.
+/// zeroing by itself, leave the core as its calls do; each store begins on the RAM that the one before left, and the
+/// last replies, and leaves RAM, as the zeroing does. A page is settled just where the theory of histories has it so.
+/// Rules out an entry or a hint that outlives its invalidation, a premise that asks for more than it says, and a
+/// zeroing shown by other stores or other RAM than its own.
 pub fn every_list()
     ensures faithful { every_list }
     ensures replies { every_step_replies }
@@ -164,8 +164,8 @@ pub fn every_fault()
 
 /// A worked list: with a TLBI of another page of the same block the page is settled and a hint answers, rightly;
 /// without it the core answers by the old table, and the page is not settled. Rules out a premise that nothing meets,
-/// or that all meet; so it is of the claim's own premise. And the counters by level after another list, under the mark and
-/// at two levels.
+/// or that all meet; the same of the claim's own premise. And the counters by level after another list, under the mark
+/// and at two levels.
 pub fn worked_list()
     ensures settled { tidied_settled }
     ensures by_cache { by_cache }
@@ -176,10 +176,10 @@ pub fn worked_list()
     ensures by_level { counted_by_level }
 {}
 
-/// Which TLBI and which register write covers which earlier walk, in numbers: all walks; those of a page, and with a block
-/// of the 2 MiB or 1 GiB about it, by bits 55:12; those of an ASID that are not global; and at a change of shape. Rules
-/// out a premise by which an invalidation covers too little, so that it asks for more than the scope, or too much. And
-/// which walks are equal: a walk under another descriptor is, so that the premise does not ask for the same one.
+/// Which TLBI and which register write covers which earlier walk, in numbers: all walks; those of a page, and with a
+/// block of the 2 MiB or 1 GiB about it, by bits 55:12; those of an ASID that are not global; all at a change of shape.
+/// And which walks are equal: those under another descriptor too. Rules out a premise by which an invalidation covers
+/// too little, so that it asks for more than the scope, or too much, and one that asks for the same descriptor.
 pub fn premise_in_numbers()
     ensures all { all_rows }
     ensures pages { page_rows }

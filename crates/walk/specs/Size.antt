@@ -19,6 +19,6 @@ pa_max = 44
 unfoldable pub pa_size : ℕ → ℕ
 pa_size code = min (ps_bits code) pa_max
 
--- the same without a table: the smallest of 32 plus four times the code, 36 plus twice the code, and the implemented size
+-- the same without a table: the smallest of 32 plus four times the code, 36 plus twice it, and the implemented size
 abbrev pub size_formula : ℕ → ℕ
 size_formula code = min (32 + 4 * code) (min (36 + 2 * code) pa_max)

@@ -28,7 +28,8 @@ pub struct Range {
 /// Where a walk begins, or the status of the fault that keeps it from beginning.
 pub type Begin = Result<WalkState, u8>;
 
-/// `TCR.{I}PS` to a number of bits: the smallest of 32 plus four times the code, 36 plus twice the code, and the A72's 44.
+/// `TCR.{I}PS` to a number of bits: the smallest of 32 plus four times the code, 36 plus twice the code, and the A72's
+/// 44.
 pub fn pa_bits(ps: u64) -> u64
     ensures formula { result ≡ min (32 + 4 * (ps % 8)) (min (36 + 2 * (ps % 8)) 44) }
     ensures value { result ≡ pa_size (ps % 8) }
