@@ -38,7 +38,9 @@ impl Origin {
         let tge = self.hcr_el2 & HCR_TGE != 0;
         match self.level {
             0 if tge && !self.is_secure() => Regime::El2,
-            level => Regime::of_level(level),
+            2 => Regime::El2,
+            3 => Regime::El3,
+            _ => Regime::El1,
         }
     }
 

@@ -1,13 +1,16 @@
 -- What a register write and a setting leave, whatever RAM stands there.
-use Rattle.std.specs.Prelude.{◌≡◌, ◌<◌, ◌≤◌, ◌==◌, ◌||◌, ◌∷◌, [], nat_lt, not, Bool, true, false, ℕ, zero, suc, Ok, Err}
+use Rattle.std.specs.Prelude.{◌≡◌, ◌<◌, ◌≤◌, ◌==◌, ◌||◌, ◌∷◌, [], nat_lt, not, Bool, true, false, ℕ, zero, suc, Ok, Err, Option, Some, None}
 use Rattle.std.proofs.Common.{refl, sym, ap, ◌∙◌, arith, le-ltb, lt-ltb, subst}
 use native.Mathlib.Nat.{mod-eq_of_lt}
 use Rattle.sysreg.specs.Write.{WriteAnswer}
+use Rattle.sysreg.specs.Encoding.{register_at}
+use Rattle.sysreg.specs.declared.regs.Register.{Register as Kept}
+use Rattle.sysreg.proofs.WriteLaws.{write-nothing}
 use Rattle.sysreg.specs.declared.write.WriteError.TheVariants.{Undefined, NoRegister}
 use Rattle.cpu.specs.Core.{set_reg}
 use Rattle.exception.specs.declared.kind.Exception.{Exception}
 use Rattle.cpu.specs.declared.Core.{Core}
-use Rattle.cpu.specs.Registers.{after_register_write, set_level, set_mark, abort_of}
+use Rattle.cpu.specs.Registers.{after_register_write, set_level, set_mark, abort_of, Registered}
 use Rattle.cpu.specs.Check.{missed_of, first_of, kept, number_of}
 use Rattle.cpu.specs.Replies.{registering}
 use Rattle.cpu.specs.declared.check.Check.{Check}
@@ -24,6 +27,10 @@ use Rattle.quick.proofs.Checks.{passed, refuses}
 
 -- REGISTERS
 
+-- the core by an equation
+pub becomes : (call : DecodedCall) (c : Core) (n : ℕ) (d e : Core) → d ≡ e → Sets call c n e → Sets call c n d
+becomes call c n d e q s = subst (λ (x : Core). Sets call c n x) (sym q) s
+
 -- of the key k that a word names
 module _ (c : Core) (k key v : ℕ) (ek : k ≡ key) where
   abbrev missed : ℕ
@@ -37,7 +44,7 @@ module _ (c : Core) (k key v : ℕ) (ek : k ≡ key) where
   named : (n : ℕ) (d : Core) → Sets (Known (Register k v)) c n d → Sets (Known (Register key v)) c n d
   named n d s = subst (λ (x : ℕ). Sets (Known (Register x v)) c n d) ek s
 
-  pub register-set : (d : Core) (a : WriteAnswer) (n : ℕ) → 0 ≡ missed → record { core = d; answer = a } ≡ after_register_write c k v → n ≡ code_by (registering a)
+  register-set : (d : Core) (a : WriteAnswer) (n : ℕ) → 0 ≡ missed → record { core = d; answer = a } ≡ after_register_write c k v → n ≡ code_by (registering a)
       → Sets (Known (Register key v)) c n d
   unfolding run_of missed_of
   register-set d a n e ew en =
@@ -46,20 +53,38 @@ module _ (c : Core) (k key v : ℕ) (ek : k ≡ key) where
             tells _ d (registering a) n old old (ap after_write ew ∙ passed c base ram (Register k v) e) en (no-value a old);
       })
 
-  pub register-refused : (x : Check) (n : ℕ) → number_of x ≡ missed → n ≡ number_of x → Sets (Known (Register key v)) c n c
+  register-refused : (x : Check) (n : ℕ) → number_of x ≡ missed → n ≡ number_of x → Sets (Known (Register key v)) c n c
   unfolding missed_of
   register-refused x n e en =
       named n c (record { on = λ base ram old. tells _ c (Refused (number_of x)) n old old (refuses c base ram (Register k v) x e) en refl })
+
+  pub register-high : 3 < c.privilege.level → Sets (Known (Register key v)) c 1 c
+  register-high h = register-refused Check.Level 1 (rw (lt-ltb 3 c.privilege.level h) refl) refl
+
+  -- a write of a key that names no register says so, and changes nothing
+  nothing : register_at k ≡ None → after_register_write c k v ≡ record { core = c; answer = Err NoRegister }
+  unfolding after_register_write
+  nothing e = rw (write-nothing c.control c.sys c.privilege.level k v e) refl
+
+  pub register-written : (d : Core) (a : WriteAnswer) (n : ℕ) → c.privilege.level < 4 → record { core = d; answer = a } ≡ after_register_write c k v
+      → n ≡ code_by (registering a) → Sets (Known (Register key v)) c n d
+  register-written d a n h ew en = go (register_at k) refl
+    where
+      low : nat_lt 3 c.privilege.level ≡ false
+      low = le-ltb 3 c.privilege.level (omega arith)
+
+      go : (f : Option Kept) → register_at k ≡ f → Sets (Known (Register key v)) c n d
+      go (Some r) e = register-set d a n (rw (low, e) refl) ew en
+      go None e =
+          let p : ◌≡◌ {A = Registered} (record { core = d; answer = a }) (record { core = c; answer = Err NoRegister }) = ew ∙ nothing e in
+          let m : n ≡ 6 = en ∙ ap (λ (x : Registered). code_by (registering x.answer)) p in
+          becomes _ c n d c (ap (λ (x : Registered). x.core) p) (register-refused Check.Key n (rw (low, e) refl) m)
 
 -- SETTINGS
 
 or-true : (b : Bool) → (b || true) ≡ true
 or-true true = refl
 or-true false = refl
-
--- the core by an equation
-pub becomes : (call : DecodedCall) (c : Core) (n : ℕ) (d e : Core) → d ≡ e → Sets call c n e → Sets call c n d
-becomes call c n d e q s = subst (λ (x : Core). Sets call c n x) (sym q) s
 
 module _ (c : Core) where
   module _ (l : ℕ) where

@@ -13,14 +13,13 @@ use sysreg::write::WriteError;
 pub fn register(core: &mut Core, key: u64, value: u64) -> u64
     ensures { Sets (DecodedCall.Known (Call.Register (key_of key) value)) core.old result core.new }
 {
-    let known = op::key_of(key);
-    match check::register(core.privilege.level, known) {
-        Ok(()) => match core.write_reg(known, value) {
-            Ok(()) => 0,
-            Err(WriteError::Undefined) => 65,
-            Err(WriteError::NoRegister) => 6,
-        },
-        Err(missed) => missed.number() as u64,
+    if 3 < core.privilege.level {
+        return 1;
+    }
+    match core.write_reg(op::key_of(key), value) {
+        Ok(()) => 0,
+        Err(WriteError::Undefined) => 65,
+        Err(WriteError::NoRegister) => 6,
     }
 }
 

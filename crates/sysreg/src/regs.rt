@@ -3,17 +3,17 @@
 ghost use Rattle.std.specs.Prelude.{◌≡◌, ◌<◌};
 ghost use Rattle.sysreg.specs.Regs.{index_of, regime_at, regime_of, single_priv, fresh_control, fresh_sys};
 
-/// `SCR_EL3` bits that are consulted.
+/// `SCR_EL3.NS`: EL0 to EL2 are Non-secure.
 pub const SCR_NS: u64 = 1 << 0;
-
+/// `SCR_EL3.SMD`: SMC is UNDEFINED.
 pub const SCR_SMD: u64 = 1 << 7;
-
+/// `SCR_EL3.HCE`: HVC is not UNDEFINED.
 pub const SCR_HCE: u64 = 1 << 8;
-/// `HCR_EL2` bits that are consulted.
+/// `HCR_EL2.DC`: stage 1 of Non-secure EL1&0 is off.
 pub const HCR_DC: u64 = 1 << 12;
-
+/// `HCR_EL2.TSC`: SMC of Non-secure EL1 is trapped.
 pub const HCR_TSC: u64 = 1 << 19;
-
+/// `HCR_EL2.TGE`: exceptions of Non-secure EL0 go to EL2, and stage 1 of Non-secure EL1&0 is off.
 pub const HCR_TGE: u64 = 1 << 27;
 /// `SCTLR_ELx.M`: stage 1 translation on.
 pub const SCTLR_M: u64 = 1 << 0;

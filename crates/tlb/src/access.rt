@@ -67,7 +67,12 @@ pub struct Request {
 pub fn tag_of(regime: Regime, va: u64) -> u64
     ensures { result ≡ tag_of regime va }
 {
-    (va >> 12) << 2 | regime as u64
+    let number = match regime {
+        Regime::El1 => 1,
+        Regime::El2 => 2,
+        Regime::El3 => 3,
+    };
+    (va >> 12) << 2 | number
 }
 
 /// The answer to an untagged address with stage 1 off: itself, or an address size fault of level 0.
