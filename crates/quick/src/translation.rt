@@ -1,6 +1,6 @@
 // One translation on a core that is lent, and where a data read goes: the number, and the address in ans. Both are one
 // text: TELLS says whether a fault is told by its status, or as no more than that.
-ghost use Rattle.std.specs.Prelude.{◌≡◌, ℕ, length, None, Ok};
+ghost use Rattle.std.specs.Prelude.{◌≡◌, ℕ, length, None};
 ghost use Rattle.word.specs.Ram.{word_at};
 ghost use Rattle.tlb.specs.Translate.{hint_in};
 ghost use Rattle.cpu.specs.Ends.{reached_by};
@@ -61,8 +61,8 @@ fn by_walk<P: Purpose, const TELLS: bool>(
     told::<TELLS>(answer, ans)
 }
 
-// With stage 1 off, by an entry, or by a walk, which is out of line.
-#[inline(always)]
+// With stage 1 off, by an entry, or by a walk: each out of line of what comes before it, with six words to hand on.
+#[inline(never)]
 fn past_hint<P: Purpose, const TELLS: bool>(
     core: &mut Core,
     va: u64,
@@ -80,6 +80,23 @@ fn past_hint<P: Purpose, const TELLS: bool>(
     }
 }
 
+#[inline(always)]
+fn by_hint<P: Purpose, const TELLS: bool>(
+    core: &mut Core,
+    va: u64,
+    ans: &mut u64,
+    base: u64,
+    ram: &[u8],
+) -> u64
+    ensures { Tells (asked_run TELLS va (translate_of core.old (word_at base ram.now 8) va P.KIND))
+        ans.old result ans.new core.new }
+{
+    match core.tlb.by_hint(core.privilege, va, P::KIND) {
+        Some(pa) => told::<TELLS>(Ok(pa), ans),
+        None => past_hint::<P, TELLS>(core, va, ans, base, ram),
+    }
+}
+
 // A window that ends at 2^64 or past it: the checks by name.
 #[cold]
 #[inline(never)]
@@ -94,16 +111,12 @@ fn checked<P: Purpose, const TELLS: bool>(
         (asked_run TELLS va (translate_of core.old (word_at base ram.now 8) va P.KIND))) ans.old result ans.new core.new }
 {
     match check::with_ram(core.privilege.level, base, ram.len() as u64) {
-        Ok(()) => match core.tlb.by_hint(core.privilege, va, P::KIND) {
-            Some(pa) => told::<TELLS>(Ok(pa), ans),
-            None => past_hint::<P, TELLS>(core, va, ans, base, ram),
-        },
+        Ok(()) => by_hint::<P, TELLS>(core, va, ans, base, ram),
         Err(missed) => missed.number() as u64,
     }
 }
 
-// What is not served at once: the level, the window, and past the hint.
-#[inline(never)]
+#[inline(always)]
 fn asked<P: Purpose, const TELLS: bool>(
     core: &mut Core,
     va: u64,
@@ -111,7 +124,6 @@ fn asked<P: Purpose, const TELLS: bool>(
     base: u64,
     ram: &[u8],
 ) -> u64
-    requires not_served { served core.old base (length ram.now) va (Ok P.KIND) ≡ None }
     ensures { Tells (ram_checked core.old base ram.now
         (asked_run TELLS va (translate_of core.old (word_at base ram.now 8) va P.KIND))) ans.old result ans.new core.new }
 {
@@ -120,55 +132,43 @@ fn asked<P: Purpose, const TELLS: bool>(
     } else if u64::MAX - (ram.len() as u64) < base {
         checked::<P, TELLS>(core, va, ans, base, ram)
     } else {
-        past_hint::<P, TELLS>(core, va, ans, base, ram)
+        by_hint::<P, TELLS>(core, va, ans, base, ram)
     }
 }
 
-#[inline(always)]
-fn data_asked(core: &mut Core, va: u64, ans: &mut u64, base: u64, ram: &[u8]) -> u64
-    requires not_served { served core.old base (length ram.now) va (Ok Read) ≡ None }
+// What is not served at once: the level, the window, and past the hint.
+#[inline(never)]
+fn data_rest(core: &mut Core, va: u64, ans: &mut u64, base: u64, ram: &[u8]) -> u64
+    requires not_served { served core.old base (length ram.now) va ≡ None }
     ensures { Tells (step_of core.old base ram.now (Call.DataPa va)) ans.old result ans.new core.new }
 {
-    asked::<Reading, false>(core, va, ans, base, ram)
+    if 3 < core.privilege.level {
+        1
+    } else if u64::MAX - (ram.len() as u64) < base {
+        checked::<Reading, false>(core, va, ans, base, ram)
+    } else {
+        past_hint::<Reading, false>(core, va, ans, base, ram)
+    }
 }
 
 /// Where a data read of va goes.
 pub fn data_pa(core: &mut Core, va: u64, ans: &mut u64, base: u64, ram: &[u8]) -> u64
     ensures { Tells (step_of core.old base ram.now (Call.DataPa va)) ans.old result ans.new core.new }
 {
-    match hint::served(core, va, 1, base, ram.len() as u64) {
+    match hint::served(core, va, base, ram.len() as u64) {
         Some(pa) => {
             *ans = pa;
             0
         }
-        None => data_asked(core, va, ans, base, ram),
+        None => data_rest(core, va, ans, base, ram),
     }
 }
 
 #[inline(always)]
 fn address<P: Purpose>(core: &mut Core, va: u64, ans: &mut u64, base: u64, ram: &[u8]) -> u64
-    requires not_served { served core.old base (length ram.now) va (Ok P.KIND) ≡ None }
     ensures { Tells (step_of core.old base ram.now (Call.Translate P.KIND va)) ans.old result ans.new core.new }
 {
     asked::<P, true>(core, va, ans, base, ram)
-}
-
-// By kind. Its arguments are those of the call in their order, so that it is jumped to.
-#[inline(never)]
-#[tactic(auto, unfolding(call_words::specs::Ops::translate_call))]
-fn kind_asked(core: &mut Core, va: u64, kind: u64, ans: &mut u64, base: u64, ram: &[u8]) -> u64
-    requires not_served { served core.old base (length ram.now) va (kind_of kind) ≡ None }
-    ensures { Says (translate_call (kind_of kind) va) core.old base ram.now ans.old result ans.new core.new }
-{
-    if kind == 1 {
-        address::<Reading>(core, va, ans, base, ram)
-    } else if kind == 2 {
-        address::<Writing>(core, va, ans, base, ram)
-    } else if kind == 4 {
-        address::<Fetching>(core, va, ans, base, ram)
-    } else {
-        64
-    }
 }
 
 /// The translation of va for an access of a kind: 1 read, 2 write, 4 fetch.
@@ -176,11 +176,17 @@ fn kind_asked(core: &mut Core, va: u64, kind: u64, ans: &mut u64, base: u64, ram
 pub fn translate(core: &mut Core, va: u64, kind: u64, ans: &mut u64, base: u64, ram: &[u8]) -> u64
     ensures { Says (translate_call (kind_of kind) va) core.old base ram.now ans.old result ans.new core.new }
 {
-    match hint::served(core, va, kind, base, ram.len() as u64) {
-        Some(pa) => {
-            *ans = pa;
-            0
+    if kind < 2 {
+        if kind == 1 {
+            address::<Reading>(core, va, ans, base, ram)
+        } else {
+            64
         }
-        None => kind_asked(core, va, kind, ans, base, ram),
+    } else if kind == 2 {
+        address::<Writing>(core, va, ans, base, ram)
+    } else if kind == 4 {
+        address::<Fetching>(core, va, ans, base, ram)
+    } else {
+        64
     }
 }

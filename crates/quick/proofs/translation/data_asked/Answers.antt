@@ -1,5 +1,0 @@
-use Rattle.quick.proofs.Checks.{data-told}
-use Rattle.quick.proofs.translation.data_asked.Goals as goal
-
-pub returns : goal.returns
-returns c = data-told _ _ _ _ _ _ _ _ c.asked.ensures
