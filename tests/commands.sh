@@ -69,6 +69,10 @@ echo 'fn word::bits: proved' >&2
 echo 'crate word: modules loaded=0 checked=507' >&2
 echo 'logic=proved functions=19 sum=dac8' >&2
 echo 'library word: modules loaded=12 checked=0' >&2
+echo 'by-macro: thiserror::Error,core::split_item blocks=2' >&2
+echo 'only=0 proved=0' >&2
+echo 'rt: word: the quick pass above reads the sources alone' >&2
+echo 'fn word::each: proved where its callers give what it asks' >&2
 echo 'crate a72: modules loaded=3 checked=9' >&2
 echo 'logic=proved functions=1 axioms=3' >&2
 echo 'what the program says when it is built'
@@ -80,6 +84,10 @@ in_out 0 ./run && {
     hasnt err 'fn word::bits'
     hasnt err 'modules loaded'
     hasnt err 'kept in'
+    hasnt err 'by-macro'
+    hasnt err 'only=0'
+    hasnt err 'quick pass'
+    hasnt err 'where its callers'
     hasnt err 'what the program says'
     has out 'played chord'
 }
@@ -97,12 +105,14 @@ cat >"$DOES" <<'RT'
 echo 'fn word::bits: proved' >&2
 printf '%s\n' 'crates/word/src/lib.rt:12:3: error: the goal a ≡ b\n is open' >&2
 echo 'fn word::field: not proved' >&2
+echo 'src/main.rt:3:1: error: a word is missing' >&2
 exit 1
 RT
 touch -d '2000-01-02' target/bin/a72
 in_out 1 ./run && {
     has err 'crates/word/src/lib.rt:12:3: error: the goal a ≡ b\n is open'
     has err 'fn word::field: not proved'
+    has err 'crates/a72/src/main.rt:3:1: error: a word is missing'
     has err 'run: a72 is not proved, and was not run..'
     [ ! -s "$work/out" ] && pass || fail 'the program ran'
 }
@@ -144,6 +154,10 @@ in_out 0 ./check && {
     hasnt out 'check: note'
     has out 'check: target/staticlib/liba72abi.a is linked'
 }
+# What the gate built is run at once.
+echo 'exit 9' >"$DOES"
+in_out 0 ./run && { [ ! -s "$work/err" ] && pass || fail 'a run after the gate proves again'; }
+echo "echo 'rt: ok'; echo '3 passed, 0 failed'" >"$DOES"
 mv crates/core_static/out/libcore_static.a crates/core_static/out/kept
 in_out 1 ./check && { has err 'check: liba72abi.a is not linked'; last out '3 passed, 1 failed'; }
 mv crates/core_static/out/kept crates/core_static/out/libcore_static.a

@@ -18,7 +18,7 @@ trap 'stop 130' INT
 trap 'stop 143' TERM
 
 # What rt says, without the line of each function that is proved and of what it loads or keeps: a line for each crate and each edit, and every error as
-# it stands. HOW: all, where rt says itself that a crate is proved; new, where it does not, and what was proved before says nothing. rt's last line goes to
+# it stands, with its crate. HOW: all, where rt says itself that a crate is proved; new, where it does not, and what was proved before says nothing. rt's last line goes to
 # $own/tally. (Line by line in sh: mawk waits until it has 4 KB.)
 speak() { # HOW
     crate=
@@ -38,6 +38,7 @@ speak() { # HOW
         'logic '* | 'library '*': modules loaded='* | 'statements '* | 'checked '*' of '* | 'so far: '* | 'empty contracts: 0 found'* | '== '* | '') continue ;;
         'axioms '*': '* | 'linked target='* | 'rt: running '*) continue ;;
         'note: no function with a body is declared'* | 'rt: chose --jobs '*) continue ;;
+        'by-macro: '* | *'only='*' proved='* | *'the quick pass above'* | *': proved where its callers give '*) continue ;;
         [0-9]*' passed, '[0-9]*' failed')
             printf '%s\n' "$line" >"$own/tally"
             continue
@@ -45,6 +46,8 @@ speak() { # HOW
         'rt: '*': begins with what a check kept in '*) continue ;;
         'rt: '*' is kept: '* | 'rt: ok; '*) [ "$1" = all ] || continue ;;
         esac
+        # rt names the files of the crate that it was called for by their place in it.
+        case $line in src/* | specs/* | proofs/* | ./proofs/*) line=${folder:+$folder/}${line#./} ;; esac
         printf '%s\n' "$line"
     done
 }

@@ -5,6 +5,7 @@ use cpu::call::{Call, Reply};
 use fault::Fault;
 use std::fmt;
 use tlb::access::Kind;
+use tlb::count::Tally;
 use tlb::entry::Entry;
 use walk::level::Walked;
 use sysreg::regs::Regime;
@@ -29,6 +30,42 @@ impl fmt::Display for Told {
             }
             Told::Nothing(check) => write!(f, "no answer, check {check}"),
         }
+    }
+}
+
+/// Where the core's answer came from.
+#[derive(Clone, Copy, PartialEq, Eq)]
+pub enum Source {
+    /// stage 1 is off
+    Flat,
+    Hint,
+    Entry,
+    Walk,
+}
+
+impl Source {
+    /// By the counters of the core's own level before and after: they tell a walk and an entry.
+    pub fn new(on: bool, before: Tally, after: Tally) -> Source {
+        if !on {
+            Source::Flat
+        } else if before.walks != after.walks {
+            Source::Walk
+        } else if before.hits != after.hits {
+            Source::Entry
+        } else {
+            Source::Hint
+        }
+    }
+}
+
+impl fmt::Display for Source {
+    fn fmt<W: fmt::Write>(&self, f: &mut fmt::Formatter<W>) -> fmt::Result {
+        f.write_str(match self {
+            Source::Flat => "with stage 1 off",
+            Source::Walk => "by a walk",
+            Source::Entry => "by an entry of the cache",
+            Source::Hint => "by a hint",
+        })
     }
 }
 

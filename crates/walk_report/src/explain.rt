@@ -1,5 +1,5 @@
 // A translation explained: what a walk made now gives, beside what the core answers.
-use crate::answer::Told;
+use crate::answer::{Source, Told};
 use crate::{levels, registers};
 use cpu::Core;
 use std::io;
@@ -31,19 +31,6 @@ fn counters(core: &Core) -> Tally {
     core.tlb.levels[count::level_place(core.privilege.level)]
 }
 
-// Where the core's answer came from: the counters tell a walk and an entry.
-fn source(on: bool, before: Tally, after: Tally) -> &'static str {
-    if !on {
-        "with stage 1 off"
-    } else if before.walks != after.walks {
-        "by a walk"
-    } else if before.hits != after.hits {
-        "by an entry of the cache"
-    } else {
-        "by a hint"
-    }
-}
-
 // What stage 1 makes of an address while it is off, by whether it fits and whether it had no tag to drop.
 fn flat_meaning(fits: bool, whole: bool) -> &'static str {
     if !fits {
@@ -69,7 +56,7 @@ fn verdict(now: Told, core: Told) -> &'static str {
 }
 
 /// One translation on a core and its window, which starts at `base`: what is asked, the registers, a walk made now, and
-/// what the core answers.
+/// what the core answers. Gives whether the core answers as the walk does.
 pub fn explain<W: Write>(
     out: &mut W,
     core: &mut Core,
@@ -77,7 +64,7 @@ pub fn explain<W: Write>(
     ram: &mut [u8],
     kind: Kind,
     va: u64,
-) -> io::Result<()> {
+) -> io::Result<bool> {
     let privilege = core.privilege;
     let regime = Regime::of_level(privilege.level);
     let bank = core.bank();
@@ -109,7 +96,8 @@ pub fn explain<W: Write>(
     writeln!(out, "walk now   {now}")?;
     let before = counters(core);
     let by_core = Told::of_core(core, base, ram, kind, va);
-    let source = source(on, before, counters(core));
+    let source = Source::new(on, before, counters(core));
     writeln!(out, "the core   {by_core}, {source}")?;
-    writeln!(out, "{}", verdict(now, by_core))
+    writeln!(out, "{}", verdict(now, by_core))?;
+    Ok(now == by_core || matches!(by_core, Told::Nothing(_)))
 }

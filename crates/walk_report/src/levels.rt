@@ -23,14 +23,22 @@ fn size(lsb: u64) -> &'static str {
     }
 }
 
-// What a table descriptor says of all below it.
-fn show_table<W: fmt::Write>(f: &mut fmt::Formatter<W>, desc: u64) -> fmt::Result {
-    write!(f, "APTable={} UXNTable={}", desc >> 61 & 3, bit(desc, 60))?;
-    writeln!(f, " PXNTable={} NSTable={}", bit(desc, 59), bit(desc, 63))
+// What a table descriptor says of all below it. EL2 and EL3 have one right to execute.
+fn show_table<W: fmt::Write>(f: &mut fmt::Formatter<W>, desc: u64, regime: Regime) -> fmt::Result {
+    let (aptable, xntable, nstable) = (desc >> 61 & 3, bit(desc, 60), bit(desc, 63));
+    if regime.is_single() {
+        return writeln!(f, "APTable={aptable} XNTable={xntable} NSTable={nstable}");
+    }
+    write!(f, "APTable={aptable} UXNTable={xntable}")?;
+    writeln!(f, " PXNTable={} NSTable={nstable}", bit(desc, 59))
 }
 
 // The attributes of a block's or a page's descriptor.
-fn show_attributes<W: fmt::Write>(f: &mut fmt::Formatter<W>, desc: u64) -> fmt::Result {
+fn show_attributes<W: fmt::Write>(
+    f: &mut fmt::Formatter<W>,
+    desc: u64,
+    regime: Regime,
+) -> fmt::Result {
     write!(
         f,
         "           AttrIndx={} NS={}",
@@ -39,6 +47,9 @@ fn show_attributes<W: fmt::Write>(f: &mut fmt::Formatter<W>, desc: u64) -> fmt::
     )?;
     write!(f, " AP={} SH={}", desc >> 6 & 3, desc >> 8 & 3)?;
     write!(f, " AF={} nG={}", bit(desc, 10), bit(desc, 11))?;
+    if regime.is_single() {
+        return writeln!(f, " XN={}", bit(desc, 54));
+    }
     writeln!(f, " PXN={} UXN={}", bit(desc, 53), bit(desc, 54))
 }
 
@@ -88,11 +99,15 @@ impl Steps<'_> {
         match step {
             Step::Next(next) => {
                 write!(f, "table at {:x}  ", next.table)?;
-                show_table(f, read.unwrap_or(0))
+                show_table(f, read.unwrap_or(0), self.regime)
             }
             Step::Leaf(leaf) => {
-                writeln!(f, "{}, output {:x}", size(state.lsb), leaf.oa)?;
-                show_attributes(f, leaf.desc)
+                write!(f, "{}, output {:x}", size(state.lsb), leaf.oa)?;
+                if !ram::inside(self.base, self.ram.len() as u64, 1, leaf.oa) {
+                    write!(f, " outside RAM")?;
+                }
+                writeln!(f)?;
+                show_attributes(f, leaf.desc, self.regime)
             }
             Step::Fault(status) => writeln!(f, "{}", Status(status)),
         }
@@ -111,8 +126,10 @@ impl Steps<'_> {
                 writeln!(f, "rights     {}  for {whom}", Rights { regime, perms })
             }
             Err(status) if tables == 0 => {
+                let disabled = self.bank.range(regime, self.va).disabled;
                 let why = match status {
-                    4 => "the address is out of range, or walks are disabled",
+                    4 if disabled => "walks of this range are disabled (EPD)",
+                    4 => "the address is out of range",
                     _ => "the table lies beyond the output size",
                 };
                 writeln!(f, "start      {}: {why}", Status(status))

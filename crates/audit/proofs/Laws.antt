@@ -1,0 +1,62 @@
+-- What the contracts of `audit` rest on: a leaf is judged as the core without a cache judges it, and what a call drops is
+-- read off its encoding or its registers.
+use Rattle.std.specs.Prelude.{if◌then◌else◌, ◌≡◌, refl, true, List, [], ◌∷◌, ℕ, ◌*◌, ◌/◌, ◌+◌, ◌%◌, ◌==◌, ◌≤◌, Ok, Err}
+use Rattle.std.proofs.Common.{◌∙◌, ap, sym, arith}
+use Rattle.fault.specs.First.{first}
+use Rattle.walk.specs.Regime.{bank_of, regime_of, stage1_on}
+use Rattle.walk.specs.Walk.{walk_of}
+use Rattle.walk.specs.declared.{regime.Regime.Regime, level.Leaf.Leaf}
+use Rattle.walk.proofs.WalkBounds.{leaf-bounds}
+use Rattle.tlb.specs.Access.{judged, user_of}
+use Rattle.tlb.specs.Cells.{judged-is}
+use Rattle.tlb.specs.Entry.{entry_for}
+use Rattle.tlb.specs.Lists.{Each, done, more}
+use Rattle.tlb.specs.Model.{Access, as_user, need, judge}
+use Rattle.tlb.specs.declared.{access.Kind.Kind, access.Privilege.Privilege, Inval.Inval}
+use Rattle.system.specs.Tlbi.{tlbi_of}
+use Rattle.system.specs.declared.decode.Encoding.{Encoding}
+use Rattle.system.specs.declared.decode.SysOp.TheVariants as Op
+use Rattle.cpu.specs.Bare.{Bare}
+use Rattle.cpu.specs.declared.Core.{Core}
+use Rattle.operations.specs.declared.call.Call.TheVariants.{System, Register}
+use Rattle.history.specs.Window.{Ram, memory_of}
+use Rattle.transparency.specs.Bare.{missed_in, op_in, operand_in, written_in, ruling_in, by_write, if_allowed}
+use Rattle.transparency.specs.Claim.{answer_by, untagged_in, uncached, drops_of}
+use Rattle.audit.specs.Answers.{fresh_answer}
+use Rattle.audit.specs.declared.answers.{Ask.Ask, Answered.Answered}
+
+-- an entry made of a leaf is judged as the leaf is
+judged-leaf : (r : Regime) (p : Privilege) (k : Kind) (va : ℕ) (leaf : Leaf) → leaf.level ≤ 3
+    → judged (entry_for leaf 0 0) (user_of r p k) k va ≡ answer_by (Ok leaf) (need k (as_user r p.level p.unprivileged k)) va
+unfolding judge
+judged-leaf r p k va leaf h =
+    let a : Access = record { privilege = p; kind = k; va = va; on = true; regime = r; untagged = 0; walk = Ok leaf } in
+    let framed : leaf.oa / 4096 * 4096 / 4096 ≡ leaf.oa / 4096 = omega arith in
+    let bit = need k (as_user r p.level p.unprivileged k) in
+    judged-is 0 r (entry_for leaf 0 0) a (record { early = omega arith; aligned = omega arith; level = h })
+    ∙ ap (λ (n : ℕ). if leaf.perms / bit % 2 == 1 then Ok (n * 4096 + va % 4096) else Err (first (12 + leaf.level))) framed
+
+-- so the core without a cache answers by it
+pub fresh-leaf : (b : Bare) (m : Ram) (k : Kind) (va : ℕ) (leaf : Leaf)
+    → stage1_on (bank_of b.control (regime_of b.privilege.level)) (regime_of b.privilege.level) ≡ true
+    → walk_of (bank_of b.control (regime_of b.privilege.level)) (regime_of b.privilege.level) (untagged_in b va) (memory_of m) ≡ Ok leaf
+    → judged (entry_for leaf 0 0) (user_of (regime_of b.privilege.level) b.privilege k) k va ≡ uncached b m k va
+fresh-leaf b m k va leaf on w =
+    rw (on, w)
+    (judged-leaf (regime_of b.privilege.level) b.privilege k va leaf
+    (leaf-bounds (bank_of b.control (regime_of b.privilege.level)) (regime_of b.privilege.level) (untagged_in b va) (memory_of m) leaf w).level-high)
+
+-- LISTS OF ANSWERS
+
+pub fresh-at : (c : Core) (m : Ram) (a : Answered) (x : Ask) → a.ask ≡ x → a.fresh ≡ fresh_answer c m x → a.fresh ≡ fresh_answer c m a.ask
+fresh-at c m a x e f = f ∙ ap (λ (y : Ask). fresh_answer c m y) (sym e)
+
+-- INVALIDATIONS
+
+pub tlbi-drops : (b : Bare) (m : Ram) (e : Encoding) → missed_in b m (System e) ≡ 0 → op_in b e ≡ Op.Tlbi
+    → if_allowed (ruling_in b m (System e)) (drops_of b (System e)) [] ≡ tlbi_of b.control e.op1 e.crm e.op2 (operand_in b e) ∷ []
+tlbi-drops b m e h o = rw (h, o) refl
+
+pub write-drops : (b : Bare) (m : Ram) (key value : ℕ) (l : List Inval) → missed_in b m (Register key value) ≡ 0
+    → if_allowed (ruling_in b m (Register key value)) l [] ≡ if_allowed (by_write (written_in b key value).answer) l []
+write-drops b m key value l h = rw h refl

@@ -1,0 +1,2 @@
+-- The lemmas of `audit`.
+pub mod Laws

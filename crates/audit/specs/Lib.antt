@@ -1,0 +1,2 @@
+-- What the contracts of `audit` cite.
+pub mod Answers
