@@ -7,7 +7,7 @@ cd "$(dirname "$0")/.."
 tool=./a72
 rust=${CARGO_TARGET_DIR:-oracle/target}/release
 [ -x target/bin/a72 ] || { echo "tool.sh: target/bin/a72 is missing: ./run or tools/build a72 makes it"; exit 1; }
-for program in run generate; do
+for program in run generate faithful; do
     [ -x "$rust/$program" ] || { echo "tool.sh: $rust/$program is missing: cargo build --offline --release in oracle/ makes it"; exit 1; }
 done
 seeds=${1-5}
@@ -70,8 +70,10 @@ chord/src/note.rt: G#
 chord/src/story.rt: THE CHORD LOST A TONE
 trace_file/src/report.rt:  (os error 
 trace_file/src/report.rt: : more than 1000000000 lines
-a72/src/main.rt: --help
-a72/src/main.rt: -h
+trace_file/src/finding.rt: COVERED, AND KEPT, AT 
+trace_file/src/finding.rt:   changed    by no line since
+a72/src/stop.rt: a stale answer
+a72/src/stop.rt: a trace
 a72/src/stop.rt: no command
 a72/src/stop.rt: the proved core lost a tone of the chord
 a72/src/stop.rt: out of memory
@@ -126,6 +128,52 @@ from 'by an entry of the cache' 1100000 read 1
 from 'by an entry of the cache' 80000 read 0
 from 'by a hint' 100000 write 0
 from 'with stage 1 off' 100000 read 3
+
+# The audit: on the lists of the oracle's tester of histories as many translations, and as many stale answers, as the tester finds; the core is right in all.
+audited() {
+    seed=$1
+    "$rust/generate" "$seed" 3000 --strict >"$work/trace"
+    told=$("$rust/faithful" "$seed" $((seed + 1)) 3000 | sed -n 's/^translations \([0-9]*\) .*stale but excused \([0-9]*\);.*/\2 \1/p')
+    "$tool" audit "$work/trace" --all >"$work/out" 2>"$work/err"
+    got=$?
+    here=$(tail -n 1 "$work/out" | sed 's/^no stale answer in /0 in /; s/ stale in / in /; s/ in \([0-9]*\) accesses$/ \1/')
+    found=$(grep -c '^STALE at ' "$work/out")
+    if [ -n "$told" ] && [ "$here" = "$told" ] && [ "$found" = "${told% *}" ] && [ "$got" = $((found > 0)) ] && ! grep -q COVERED "$work/out" && [ ! -s "$work/err" ]; then
+        stale=$((stale + found))
+        pass
+    else
+        fail "audit of seed $seed: $here, the tester $told, shown $found, status $got"
+    fi
+}
+
+stale=0
+for seed in $(seq 1 $((seeds * 4))); do audited "$seed"; done
+[ "$stale" -gt 0 ] && pass || fail 'no list of the tester has a stale answer'
+echo "audited: $((seeds * 4)) lists, $stale stale answers"
+for t in recorded/cases.trace "$layout" tests/page.trace tests/stale.trace; do
+    "$tool" audit "$t" >"$work/out" 2>&1 && grep -q '^no stale answer in [0-9]* accesses$' "$work/out" && pass || fail "audit $t"
+done
+"$tool" walk tests/stale.trace 100234 >"$work/out" 2>&1
+[ $? = 1 ] && grep -q '^THEY DIFFER' "$work/out" && pass || fail 'the status of a walk that shows a difference'
+"$tool" walk tests/page.trace 100234 >"$work/out" 2>&1 && pass || fail 'the status of a walk that shows none'
+
+# Standard input, dumps, and large windows.
+"$tool" run - <recorded/cases.trace >"$work/ours" 2>"$work/err"
+"$tool" run recorded/cases.trace | cmp -s - "$work/ours" && [ ! -s "$work/err" ] && pass || fail 'a run of standard input'
+printf 'level 1\nworse\nlevel 2\n' | "$tool" run - >"$work/out" 2>"$work/err"
+[ $? = 1 ] && grep -q '^1 level 1 => ok' "$work/out" && grep -q '^a72: -:2:1: no line' "$work/err" && pass || fail 'a bad line of standard input'
+"$tool" run recorded/cases.trace | sed 's/ | .*//' >"$work/ours"
+"$tool" run recorded/cases.trace --short | cmp -s - "$work/ours" && pass || fail 'a short run'
+head -c 3000000 /dev/urandom >"$work/dump"
+word=$(od -An -tx8 -j 2999992 -N 8 "$work/dump" | tr -d ' ' | sed 's/^0*//')
+printf 'ld 802dc6b8 8\n' >"$work/trace"
+[ "$("$tool" run --image "$work/dump@80000000" "$work/trace" --short)" = "1 ld 802dc6b8 8 => val $word" ] && pass || fail 'an image'
+printf 'window 80000000 10000000\nload %s 80001000\nld 802dd6b8 8\nld 80000ff8 8\n' "$work/dump" >"$work/trace"
+[ "$("$tool" run "$work/trace" --short)" = "$(printf '3 ld 802dd6b8 8 => val %s\n4 ld 80000ff8 8 => val 0' "$word")" ] && pass || fail 'a load into a window of 256 MiB'
+line "load $work/dump 0" 6 "the file's bytes do not all lie in the window"
+{ printf 'window 0 200000\n'; awk 'BEGIN { for (n = 0; n < 262144; n++) printf "poke %x %x\n", n * 8, n; for (n = 0; n < 20000; n++) printf "st %x 8 1\n", n * 8 }'; } >"$work/trace"
+[ "$(timeout 20 "$tool" run "$work/trace" --short | tail -n 1)" = '282145 st 270f8 8 1 => ok' ] && pass || fail '2 MiB of pokes and 20,000 stores'
+[ "$(timeout 20 "$tool" audit "$work/trace")" = 'no stale answer in 20000 accesses' ] && pass || fail 'an audit of 20,000 stores'
 
 # The census: its rows add up to the pages, and the cells of its map are as many as it says.
 { cat "$layout"; printf 'census 0 10000\ncensus 123 0\nlevel 0\ncensus 0 400\nlevel 3\ncensus 0 400\ncensus 0 10001\n'; } >"$work/trace"
@@ -205,10 +253,25 @@ line 'abort svc 10000' 11 'a number of more than 16 bits'
 line 'abort data 0 0 100' 16 'a number of more than 8 bits'
 line 'abort trap' 7 'no such exception'
 line 'l-on 4' 6 'no regime'
-line 'window 0 200001' 10 'a window of more than'
+line 'window 0 20000001' 10 'a window of more than'
+line 'mark 3' 6 'no flag'
+line 'abort data 0 2 0' 14 'no flag'
+line 'w-fetch 0 100 0' 11 'a number of more than 8 bits'
+line 'level 1 level 2' 9 'a word after the last argument'
+line "$(printf 'level 1\rlevel 2')" 9 'a word after the last argument'
+line 'l-asid 0' 8 'a word after the last argument'
+line 'load' 5 'an argument is missing'
+line 'load tests/page.trace' 22 'an argument is missing'
+line 'load tests/page.trace 0x0' 23 'not a hexadecimal number'
+line 'load none 0' 6 'No such file'
+line 'load tests 0' 6 'directory'
 line "$(printf 'x 1 \001')" 5 'a byte that no line holds'
 printf 'tr 1 0\nworse\n' >"$work/bad"
 refused 1 ':2:1:' run "$work/bad"
+printf '\357\273\277tr 1 0\n' >"$work/bad"
+refused 1 ':1:1: a byte order mark' run "$work/bad"
+printf 'tr 1 0\rtr 1 1\r' >"$work/bad"
+refused 1 ':1:8: a word after the last argument' run "$work/bad"
 head -c 70000 /dev/zero | tr '\0' ' ' >"$work/bad"
 refused 1 ':1:1: a line of more than 65000 bytes' run "$work/bad"
 head -c 5000 /dev/urandom >"$work/bad"
@@ -237,7 +300,19 @@ refused 1 'more than 65536 pages (10000 hexadecimal)' census "$layout" 0 10001
 refused 1 'more than 65536 pages (10000 hexadecimal)' census "$layout" 0 ffffffffffffffff --svg
 refused 1 'the range passes 2^64' census "$layout" ffffffffffffffff 2
 refused 1 'LEVEL: 0, 1, 2 or 3' census "$layout" 0 10 4
-refused 1 'LEVEL: 0, 1, 2 or 3' census "$layout" 0 10 --png
+refused 2 'no such option: --png' census "$layout" 0 10 --png
+refused 2 'no such option: --json' census "$layout" 0 10 --json
+refused 2 'no such command: runn (the nearest is run)' runn "$layout"
+refused 2 'no such command: audti (the nearest is audit)' audti
+refused 2 'audit wants one TRACE' audit
+refused 2 'audit wants one TRACE' audit "$layout" "$layout"
+refused 1 'No such file' audit "$work/none"
+refused 1 'Is a directory' audit "$work"
+refused 1 '--image wants FILE@ADDRESS' run "$layout" --image
+refused 1 '--image wants FILE@ADDRESS' run "$layout" --image here
+refused 1 '--image wants FILE@ADDRESS' run "$layout" --image here@0xg
+refused 1 'a72: --image: No such file' run "$layout" --image "$work/none@0"
+refused 1 'a72: --image: ' run "$layout" --image "$work@0"
 refused 1 'No such file' census "$work/none" 0 10 --svg
 printf 'level 1\np-level 4\n' >"$work/bad"
 refused 1 "the core's level is above 3" census "$work/bad" 0 10
@@ -245,10 +320,11 @@ printf 'window fffffffffffff000 2000\n' >"$work/bad"
 refused 1 'the window passes 2^64' census "$work/bad" 0 10
 refused 2 'usage:' census "$layout" 0
 refused 2 'usage:' census "$layout" 0 10 1 2
-refused 1 'LEVEL: 0, 1, 2 or 3' census "$layout" 0 10 --svg --svg
 printf '%s\n' 'tr 1 0' >"$work/good"
 mkfifo "$work/pipe" && { cat "$work/good" >"$work/pipe" & }
 refused 1 'not a file that can be read twice' run "$work/pipe"
+yes | timeout 5 "$tool" run /dev/stdin >"$work/out" 2>"$work/err"
+{ [ $? = 1 ] && grep -q 'not a file that can be read twice' "$work/err" && pass; } || fail 'a pipe without an end is refused at once'
 refused 1 'an argument is not text in UTF-8' run "$(printf 'a\377')"
 "$tool" run "$work/good" >/dev/full 2>"$work/err"
 { [ $? = 1 ] && grep -q '^a72: write: ' "$work/err" && pass; } || fail 'output that cannot be written'
@@ -258,7 +334,10 @@ refused 2 'usage:'
 
 # Help and version, on standard output.
 "$tool" help >"$work/help" 2>&1 && grep -q '^usage: a72 run TRACE' "$work/help" && pass || fail help
-for word in -h --help; do "$tool" "$word" 2>&1 | cmp -s - "$work/help" && pass || fail "$word"; done
+for word in -h --help 'run -h' 'audit --help' 'census x --help'; do
+    # shellcheck disable=SC2086
+    "$tool" $word 2>&1 | cmp -s - "$work/help" && pass || fail "$word"
+done
 [ "$("$tool" --version 2>&1)" = "a72 $(sed -n 's/^version = "\(.*\)"/\1/p' bindings/rust/Cargo.toml)" ] && pass || fail '--version'
 
 # On a terminal the lines are those of a file.
@@ -274,11 +353,11 @@ if command -v python3 >/dev/null; then
 fi
 
 # A trace is read as the Rust reads it.
-printf '\n  # only a comment\nwindow 0 1000 \t # a comment\ntr +1 00000000000000FF ignored\r\nlevel 1' >"$work/odd"
+printf '\n  # only a comment\nwindow 0 1000 \t # a comment\ntr +1 00000000000000FF \r\nlevel 1' >"$work/odd"
 same "$work/odd" 'spaces, signs, comments'
 printf 'level\v1\ntr\f1 40001234\r\n\rlevel 1\n' >"$work/odd"
 same "$work/odd" 'white space of ASCII'
-printf 'mark 2\nabort data 1000 ffff ff\nabort data 1000 0 0\nabort insn 1000 ff\nabort svc ffff\nabort brk 0\n' >"$work/odd"
+printf 'mark 1\nabort data 1000 01 ff\nabort data 1000 0 0\nabort insn 1000 ff\nabort svc ffff\nabort brk 0\n' >"$work/odd"
 same "$work/odd" 'flags, statuses and immediates at their ends'
 : >"$work/empty"
 "$tool" run "$work/empty" >"$work/out" 2>&1 && [ ! -s "$work/out" ] && pass || fail 'an empty trace'

@@ -1,15 +1,19 @@
 -- The status that the tool ends with where a command is not carried out.
 use Rattle.std.specs.Prelude.{ℕ}
 use Rattle.a72.specs.declared.stop.Stop.{Stop}
-use Rattle.a72.specs.declared.stop.Stop.TheVariants.{NoCommand, Usage, Argument, Trace, Census, LostTone, Output, Memory}
+use Rattle.a72.specs.declared.stop.Stop.TheVariants.{NoCommand, NoSuchCommand, NoSuchOption, Usage, Argument, Trace}
+use Rattle.a72.specs.declared.stop.Stop.TheVariants.{Census, Stale, LostTone, Output, Memory}
 
 -- 2 where the call is wrong, else 1
 abbrev pub status_of : Stop → ℕ
 status_of NoCommand = 2
+status_of NoSuchCommand = 2
+status_of NoSuchOption = 2
 status_of (Usage why) = 2
 status_of (Argument wrong) = 1
 status_of (Trace trouble) = 1
 status_of (Census refused) = 1
+status_of Stale = 1
 status_of LostTone = 1
 status_of (Output error) = 1
 status_of (Memory error) = 1

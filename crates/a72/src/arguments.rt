@@ -1,9 +1,11 @@
-//! Arguments of a command: numbers, levels, a trace's path.
+//! The words of a call: its command, options and arguments.
 use crate::stop::{Stop, Wrong};
 use std::alloc::AllocError;
 use std::env;
 use std::io::ErrorKind;
 use std::rt::Env;
+use trace_file::load::Image;
+use trace_file::run::Trace;
 use trace_text::lex;
 use trace_text::reason::Reason;
 
@@ -11,6 +13,24 @@ use trace_text::reason::Reason;
 const NUMBER: usize = 32;
 
 const PATH: usize = 4096;
+
+/// The options of a call.
+#[derive(Clone, Copy, Default)]
+pub struct Options<'a> {
+    pub image: Option<Image<'a>>,
+    pub short: bool,
+    pub all: bool,
+    pub svg: bool,
+    pub help: bool,
+    pub version: bool,
+}
+
+/// The words after the program's name: options, which may stand anywhere, and the others in their order.
+#[derive(Drop)]
+pub struct Arguments<'a> {
+    pub options: Options<'a>,
+    pub words: Vec<&'a str>,
+}
 
 /// A number; 0x may stand before it.
 pub fn number(word: &str) -> Result<u64, Reason> {
@@ -27,11 +47,11 @@ pub fn named_number(word: &str, name: &'static str) -> Result<u64, Stop> {
 }
 
 /// The level that an argument names; none where it is not there.
-pub fn level(word: Option<&String>) -> Result<Option<u64>, Stop> {
+pub fn level(word: Option<&&str>) -> Result<Option<u64>, Stop> {
     let Some(word) = word else {
         return Ok(None);
     };
-    match number(word.as_str()) {
+    match number(word) {
         Ok(level) if level < 4 => Ok(Some(level)),
         _ => Err(Stop::Argument(Wrong::Level)),
     }
@@ -46,18 +66,55 @@ pub fn words<R: Env + AllocGlobal>(rt: &R) -> Result<Vec<String>, Stop> {
     }
 }
 
-/// The path of a trace.
-pub fn path(word: &str) -> Result<&str, Stop> {
+fn path<'a>(word: &'a str, name: &'static str) -> Result<&'a str, Stop> {
     if PATH < word.len() {
-        return Err(Stop::Argument(Wrong::LongPath));
+        return Err(Stop::Argument(Wrong::LongPath(name)));
     }
     Ok(word)
 }
 
-/// The path of a trace, where a command wants no more.
-pub fn only_path<'a>(words: &'a [String], usage: &'static str) -> Result<&'a str, Stop> {
-    match words {
-        [word] => path(word.as_str()),
-        _ => Err(Stop::Usage(usage)),
+// FILE@ADDRESS.
+fn image(word: &str) -> Result<Image<'_>, Stop> {
+    let Some((file, addr)) = word.rsplit_once('@') else {
+        return Err(Stop::Argument(Wrong::Image));
+    };
+    let addr = number(addr).map_err(|_| Stop::Argument(Wrong::Image))?;
+    let path = path(file, "--image")?;
+    Ok(Image { path, addr })
+}
+
+impl<'a> Arguments<'a> {
+    /// The words as options and others. An option that is not known is a wrong call.
+    pub fn new(words: &'a [String], others: Vec<&'a str>) -> Result<Arguments<'a>, Stop> {
+        let mut all = Arguments {
+            options: Options::default(),
+            words: others,
+        };
+        let mut rest = words.iter();
+        while let Some(word) = rest.next() {
+            let options = &mut all.options;
+            match word.as_str() {
+                "--image" => match rest.next() {
+                    Some(word) => options.image = Some(image(word.as_str())?),
+                    None => return Err(Stop::Argument(Wrong::Image)),
+                },
+                "--short" => options.short = true,
+                "--all" => options.all = true,
+                "--svg" => options.svg = true,
+                "-h" | "--help" => options.help = true,
+                "--version" => options.version = true,
+                word if word.starts_with("--") => return Err(Stop::NoSuchOption),
+                word => all.words.push(word).map_err(AllocError::from)?,
+            }
+        }
+        Ok(all)
+    }
+
+    /// The trace of a path, on the dump that the options name.
+    pub fn trace(&self, word: &'a str) -> Result<Trace<'a>, Stop> {
+        Ok(Trace {
+            path: path(word, "TRACE")?,
+            image: self.options.image,
+        })
     }
 }

@@ -3,6 +3,7 @@ ghost use Rattle.std.specs.Prelude.{◌≡◌};
 ghost use Rattle.std.specs.Process.{exit_status};
 ghost use Rattle.a72.specs.Status.{status_of};
 
+use crate::usage;
 use census_report::report::Refused;
 use std::alloc::{AllocError, Global};
 use std::io;
@@ -21,8 +22,10 @@ pub enum Wrong {
     Level,
     #[error("the kind of access is read, write or fetch")]
     Kind,
-    #[error("TRACE: File name too long")]
-    LongPath,
+    #[error("{0}: File name too long")]
+    LongPath(&'static str),
+    #[error("--image wants FILE@ADDRESS, the address hexadecimal")]
+    Image,
     #[error("an argument is not text in UTF-8")]
     NotText,
 }
@@ -31,6 +34,10 @@ pub enum Wrong {
 pub enum Stop {
     #[error("no command")]
     NoCommand,
+    #[error("no such command")]
+    NoSuchCommand,
+    #[error("no such option")]
+    NoSuchOption,
     /// a wrong call, and what is wrong with it
     #[error("{0}")]
     Usage(&'static str),
@@ -40,6 +47,9 @@ pub enum Stop {
     Trace(#[from] Trouble),
     #[error(transparent)]
     Census(#[from] Refused),
+    /// the core gave an answer that a walk now would not, as standard output says
+    #[error("a stale answer")]
+    Stale,
     #[error("the proved core lost a tone of the chord")]
     LostTone,
     /// standard output takes no more
@@ -55,34 +65,68 @@ impl Stop {
         ensures { exit_status result ≡ status_of self.now }
     {
         match self {
-            Stop::NoCommand | Stop::Usage(_) => ExitCode::from(2u8),
+            Stop::NoCommand | Stop::NoSuchCommand | Stop::NoSuchOption | Stop::Usage(_) => {
+                ExitCode::from(2u8)
+            }
             _ => ExitCode::FAILURE,
         }
     }
 }
 
-pub fn usage<W: Write>(out: &mut W) -> io::Result<()> {
-    writeln!(out, "usage: a72 run TRACE")?;
-    writeln!(out, "       a72 counters TRACE")?;
-    writeln!(
-        out,
-        "       a72 walk TRACE ADDRESS [read|write|fetch] [LEVEL]"
-    )?;
-    writeln!(out, "       a72 census TRACE FIRST PAGES [LEVEL] [--svg]")?;
-    writeln!(out, "       a72 chord")?;
-    writeln!(out, "       a72 help | --version")
+// The word after those that name no option, in their order: the command is that of place 0.
+fn word_at(words: &[String], place: usize) -> &str {
+    let mut rest = words.iter();
+    let mut before = 0usize;
+    while let Some(word) = rest.next() {
+        match word.as_str() {
+            "--image" => {
+                rest.next();
+            }
+            word if word.starts_with("--") => {}
+            word if before == place => return word,
+            _ => before = before.wrapping_add(1),
+        }
+    }
+    ""
 }
 
-/// The message; the path is that of the command's trace.
-pub fn show<W: Write>(out: &mut W, alloc: Global, path: &str, stop: Stop) -> io::Result<()> {
+// The first word that names no option.
+fn unknown_option(words: &[String]) -> &str {
+    let known = |word: &str| {
+        matches!(
+            word,
+            "--image" | "--short" | "--all" | "--svg" | "--help" | "--version"
+        )
+    };
+    let unknown = words.iter().find(|word| word.as_str().starts_with("--")
+        && !known(word.as_str()));
+    unknown.map_or("", |word| word.as_str())
+}
+
+/// The message on the call of these words.
+pub fn show<W: Write>(out: &mut W, alloc: Global, words: &[String], stop: Stop) -> io::Result<()> {
     match stop {
-        Stop::NoCommand => usage(out),
+        Stop::NoCommand => usage::usage(out),
+        Stop::NoSuchCommand => {
+            let word = word_at(words, 0);
+            let nearest = usage::nearest(alloc, word)?;
+            writeln!(
+                out,
+                "a72: no such command: {word} (the nearest is {nearest})"
+            )?;
+            usage::usage(out)
+        }
+        Stop::NoSuchOption => {
+            writeln!(out, "a72: no such option: {}", unknown_option(words))?;
+            usage::usage(out)
+        }
         Stop::Usage(why) => {
             writeln!(out, "a72: {why}")?;
-            usage(out)
+            usage::usage(out)
         }
-        Stop::Trace(trouble) => report::show(out, alloc, path, trouble),
+        Stop::Trace(trouble) => report::show(out, alloc, word_at(words, 1), trouble),
         Stop::Output(error) => report::system(out, alloc, "write", error),
+        Stop::Stale => Ok(()),
         _ => writeln!(out, "a72: {stop}"),
     }
 }

@@ -6,8 +6,11 @@ use crate::words::Words;
 use record_report::short;
 use std::io;
 use std::io::Write;
-use trace_text::line::{LONGEST_WINDOW, Line, Setup};
+use trace_text::line::{Line, Setup};
 use trace_text::words;
+
+// No record has a longer window, in bytes.
+const LONGEST_WINDOW: usize = 0x20_0000;
 
 // No record has more lines.
 const LINES: u64 = 100_000_000;
@@ -64,7 +67,7 @@ impl<W: Write> Replay<'_, W> {
                 return Err(Stop::Broken(Fault::LargeWindow));
             }
             Some(Line::Setup(setup)) => self.machine.arrange(setup)?,
-            None => self.case_line(&op)?,
+            Some(Line::Load(_)) | None => self.case_line(&op)?,
         }
         Ok(())
     }

@@ -46,7 +46,7 @@ impl<'a, W: Write> Replay<'a, W> {
     pub fn new(out: &'a mut W, alloc: Global) -> Result<Replay<'a, W>, AllocError> {
         Ok(Replay {
             out,
-            machine: Machine::new(alloc)?,
+            machine: Machine::new(alloc),
             tally: Tally::new(),
             records: 0,
             total: Counts::default(),

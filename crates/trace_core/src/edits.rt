@@ -116,7 +116,6 @@ pub fn overwrite(machine: &mut Machine, part: Part) {
             core.tlb.entries[usize::from(slot) % 1024] = entry_of(tag, generation, bits, pa);
         }
         Part::FetchHint { page, level, pa } => {
-            let level = (level % 256) as u8;
             core.tlb.fetch = Some(FetchHint { page, level, pa });
         }
     }

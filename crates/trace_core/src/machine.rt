@@ -8,7 +8,8 @@ use digest::parts::Sum;
 use saved::{place, save};
 use std::alloc::{AllocError, Global};
 use trace_text::answer::Answer;
-use trace_text::line::{LONGEST_WINDOW, Operation, Setup};
+use trace_text::line::{Operation, Setup};
+use word::ram;
 
 /// A core, and its window of RAM.
 #[derive(Drop)]
@@ -24,15 +25,15 @@ pub struct Machine {
 }
 
 impl Machine {
-    /// A fresh core, and a window without bytes. Memory for the longest window is taken here.
-    pub fn new(alloc: Global) -> Result<Machine, AllocError> {
-        Ok(Machine {
+    /// A fresh core, and a window without bytes.
+    pub fn new(alloc: Global) -> Machine {
+        Machine {
             core: Core::new(),
             given_level: 0,
             base: 0,
-            ram: Vec::with_capacity(alloc, LONGEST_WINDOW)?,
+            ram: Vec::new(alloc),
             digest: None,
-        })
+        }
     }
 
     /// As it was when it was made.
@@ -117,6 +118,18 @@ impl Machine {
             Setup::Part(part) => edits::overwrite(self, part),
         }
         Ok(())
+    }
+
+    /// The part of the window that a number of bytes from an address on take; none where it does not hold them all.
+    pub fn part(&mut self, addr: u64, len: u64) -> Option<&mut [u8]> {
+        if !ram::inside(self.base, self.ram.len() as u64, len, addr) {
+            return None;
+        }
+        self.digest = None;
+        let start = addr.wrapping_sub(self.base) as usize;
+        let (_, from) = self.ram.as_mut_slice().split_at_mut_checked(start)?;
+        let (part, _) = from.split_at_mut_checked(len as usize)?;
+        Some(part)
     }
 
     /// The digest of the window.

@@ -2,15 +2,14 @@
 ghost use Rattle.std.specs.Prelude.{◌≡◌, IfOk, vec_len};
 
 use std::alloc::{AllocError, Global};
-use trace_text::line::LONGEST_WINDOW;
 use word::ram;
 use word::ram::Width;
 
-/// RAM for the longest window, all zero.
+/// RAM of 2 MiB, all zero.
 pub fn zeros(alloc: Global) -> Result<Vec<u8>, AllocError>
     ensures { IfOk result (λ ram. vec_len ram ≡ 2097152) }
 {
-    vec![in alloc; 0u8; LONGEST_WINDOW]
+    vec![in alloc; 0u8; 0x20_0000]
 }
 
 /// Another agent's write of eight bytes: those outside the window are dropped.

@@ -13,6 +13,11 @@ pub enum Trouble {
     Output(io::Error),
     /// the number of the line that is refused
     Line(u64, Refusal),
+    /// what the system says of a file that a line loads: the line, the column of its path
+    Load(u64, usize, io::Error),
+    /// what the system says of the dump before the first line
+    Image(io::Error),
+    LongImage,
     ManyLines,
     ReadOnce,
 }
@@ -45,7 +50,21 @@ pub fn show<W: Write>(out: &mut W, alloc: Global, path: &str, trouble: Trouble) 
         Trouble::Line(line, Refusal { column, reason }) => {
             writeln!(out, "a72: {path}:{line}:{column}: {reason}")
         }
+        Trouble::Load(line, column, error) => {
+            let place = format!(in alloc; "{path}:{line}:{column}")?;
+            system(out, alloc, place.as_str(), error)
+        }
+        Trouble::Image(error) => system(out, alloc, "--image", error),
+        Trouble::LongImage => {
+            writeln!(
+                out,
+                "a72: --image: a file of more than 20000000 bytes (512 MiB)"
+            )
+        }
         Trouble::ManyLines => writeln!(out, "a72: {path}: more than 1000000000 lines"),
-        Trouble::ReadOnce => writeln!(out, "a72: {path}: not a file that can be read twice"),
+        Trouble::ReadOnce => writeln!(
+            out,
+            "a72: {path}: not a file that can be read twice (- is standard input)"
+        ),
     }
 }

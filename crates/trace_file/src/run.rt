@@ -1,7 +1,9 @@
-//! A trace from a file, line by line: checked, run with a line of output for each operation, or run in silence.
+//! A trace line by line, from a file or from standard input: checked, and then carried out as a command asks.
+use crate::carry::Carrier;
+use crate::load;
+use crate::load::Image;
 use crate::report::Trouble;
-use crate::show;
-use std::io::{BufRead, BufReader, Read, Seek, Write};
+use std::io::{BufRead, BufReader, Input, Read, Seek};
 use std::rt::Files;
 use std::{fs, io};
 use trace_core::machine::Machine;
@@ -9,23 +11,23 @@ use trace_text::line::Line;
 use trace_text::parse;
 use trace_text::reason::{Reason, Refusal};
 
-// What is done with each line.
-#[derive(Clone, Copy, PartialEq, Eq)]
-enum Mode {
-    Check,
-    Run,
-    Silent,
-}
-
 // No trace has more lines.
 const LINES: u64 = 1_000_000_000;
 
 // The longest line, in bytes; so many suffice for the 65,000 that are promised.
 const LONGEST: usize = 65_520;
 
+/// Where a trace comes from: a file, or standard input where the path is `-`.
+#[derive(Clone, Copy)]
+pub struct Trace<'a> {
+    pub path: &'a str,
+    /// a raw dump, which is the window before the first line
+    pub image: Option<Image<'a>>,
+}
+
 // Reads the next line, without its end, in place of the one before it; false where there is none. One that is too long
 // is cut off behind its first byte too many.
-fn next_line<R: BufRead>(reader: &mut R, line: &mut Vec<u8>) -> io::Result<bool> {
+fn next_line<B: BufRead>(reader: &mut B, line: &mut Vec<u8>) -> io::Result<bool> {
     line.clear();
     let most = LONGEST as u64 + 1;
     let n = reader.by_ref().take(most).read_until(b'\n', line)?;
@@ -36,88 +38,79 @@ fn next_line<R: BufRead>(reader: &mut R, line: &mut Vec<u8>) -> io::Result<bool>
 }
 
 // What a line's bytes mean, if they mean anything.
-fn parsed(bytes: &[u8]) -> Result<Option<Line>, Refusal> {
-    if LONGEST < bytes.len() {
-        return Err(Refusal {
+fn parsed(number: u64, bytes: &[u8]) -> Result<Option<Line>, Trouble> {
+    let line = if LONGEST < bytes.len() {
+        Err(Refusal {
             column: 1,
             reason: Reason::LongLine,
-        });
-    }
-    parse::parse(bytes)
+        })
+    } else {
+        parse::parse(bytes)
+    };
+    line.map_err(|refusal| Trouble::Line(number, refusal))
 }
 
-// A line is carried out, and shown where it is an operation that is not run in silence.
-fn act<W: Write>(
-    out: &mut W,
-    mode: Mode,
-    number: u64,
-    line: Line,
-    machine: &mut Machine,
-) -> Result<(), Trouble> {
-    match line {
-        Line::Setup(setup) => machine.arrange(setup)?,
-        Line::Operation(operation) => {
-            let answer = machine.perform(operation);
-            if mode == Mode::Run {
-                show::operation(out, number, &operation, answer, machine).map_err(Trouble::Output)?;
-            }
-        }
-    }
-    Ok(())
-}
-
-// All lines of a reader that stands at a trace's start.
-fn pass<R: BufRead, W: Write>(
-    reader: &mut R,
-    out: &mut W,
-    mode: Mode,
-    bytes: &mut Vec<u8>,
-    machine: &mut Machine,
-) -> Result<(), Trouble> {
-    machine.restart();
+// All lines of a reader that stands at a trace's start are read, and none is carried out.
+fn check<R: Files, B: BufRead>(rt: &R, reader: &mut B, bytes: &mut Vec<u8>) -> Result<(), Trouble> {
     for before in 0..LINES {
-        let number = before + 1;
         if !next_line(reader, bytes).map_err(Trouble::File)? {
             return Ok(());
         }
-        let line = parsed(bytes.as_slice()).map_err(|refusal| Trouble::Line(number, refusal))?;
-        match line {
-            Some(line) if mode != Mode::Check => act(out, mode, number, line, machine)?,
-            _ => {}
+        if let Some(Line::Load(from)) = parsed(before + 1, bytes.as_slice())? {
+            load::check(rt, before + 1, bytes.as_slice(), from)?;
         }
     }
     Err(Trouble::ManyLines)
 }
 
-// Checks the file whole, goes back to its start, and carries it out.
-fn checked<R: Files + AllocGlobal, W: Write>(
+// All lines of a reader that stands at a trace's start are carried out, until the carrier has seen enough.
+fn carry_out<R: Files, B: BufRead, C: Carrier>(
     rt: &R,
-    out: &mut W,
-    path: &str,
-    mode: Mode,
+    reader: &mut B,
+    bytes: &mut Vec<u8>,
+    carrier: &mut C,
     machine: &mut Machine,
 ) -> Result<(), Trouble> {
-    let file = fs::open(rt, path).map_err(Trouble::File)?;
-    let mut reader = BufReader::new(rt.alloc(), file).map_err(Trouble::File)?;
-    let mut bytes = Vec::new(rt.alloc());
-    pass(&mut reader, out, Mode::Check, &mut bytes, machine)?;
-    reader.rewind().map_err(|_| Trouble::ReadOnce)?;
-    pass(&mut reader, out, mode, &mut bytes, machine)
+    for before in 0..LINES {
+        let number = before + 1;
+        if !next_line(reader, bytes).map_err(Trouble::File)? {
+            return Ok(());
+        }
+        let Some(line) = parsed(number, bytes.as_slice())? else {
+            continue;
+        };
+        if let Line::Load(from) = line {
+            load::line(rt, number, bytes.as_slice(), from, machine)?;
+        }
+        if !carrier.line(number, line, machine)? {
+            return Ok(());
+        }
+    }
+    Err(Trouble::ManyLines)
 }
 
-/// `a72 run TRACE`: a trace carried out, with a line of output for each operation.
-pub fn run<R: Files + AllocGlobal, W: Write>(
+/// Carries out a trace: a file is checked whole before its first line is; standard input, which is read once, is
+/// carried out as it comes.
+pub fn run<R: Files + Input + AllocGlobal, C: Carrier>(
     rt: &R,
-    out: &mut W,
-    path: &str,
-) -> Result<(), Trouble> {
-    let mut machine = Machine::new(rt.alloc())?;
-    checked(rt, out, path, Mode::Run, &mut machine)
-}
-
-/// A trace carried out with nothing said: the machine after it.
-pub fn silently<R: Files + AllocGlobal>(rt: &R, path: &str) -> Result<Machine, Trouble> {
-    let mut machine = Machine::new(rt.alloc())?;
-    checked(rt, &mut io::sink(), path, Mode::Silent, &mut machine)?;
+    trace: Trace<'_>,
+    carrier: &mut C,
+) -> Result<Machine, Trouble> {
+    let mut machine = Machine::new(rt.alloc());
+    let mut bytes = Vec::new(rt.alloc());
+    if let Some(image) = trace.image {
+        load::as_window(rt, image, &mut machine)?;
+    }
+    if trace.path == "-" {
+        let mut reader = BufReader::new(rt.alloc(), rt.reader()).map_err(Trouble::File)?;
+        carry_out(rt, &mut reader, &mut bytes, carrier, &mut machine)?;
+        return Ok(machine);
+    }
+    let mut file = fs::open(rt, trace.path).map_err(Trouble::File)?;
+    file.rewind().map_err(|_| Trouble::ReadOnce)?;
+    let mut reader = BufReader::new(rt.alloc(), file).map_err(Trouble::File)?;
+    check(rt, &mut reader, &mut bytes)?;
+    reader.rewind().map_err(|_| Trouble::ReadOnce)?;
+    carry_out(rt, &mut reader, &mut bytes, carrier, &mut machine)?;
     Ok(machine)
 }

@@ -46,13 +46,26 @@ fn digests<W: Write>(out: &mut W, core: &Core, ram: u64) -> io::Result<()> {
     writeln!(out, " H={}:{:016x} M={ram:016x}", hints.count, hints.digest)
 }
 
+/// What a line of output says.
+#[derive(Clone, Copy, PartialEq, Eq)]
+pub enum Form {
+    /// the operation, its answer and the core after it
+    Whole,
+    /// the operation and its answer: no digest of the window is taken
+    Short,
+}
+
 pub fn operation<W: Write>(
     out: &mut W,
+    form: Form,
     number: u64,
     operation: &Operation,
     answer: Answer,
     machine: &mut Machine,
 ) -> io::Result<()> {
+    if form == Form::Short {
+        return writeln!(out, "{number} {operation} => {answer}");
+    }
     let ram = machine.window_digest();
     write!(out, "{number} {operation} => {answer}")?;
     counts(out, &machine.core)?;

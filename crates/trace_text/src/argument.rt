@@ -34,10 +34,13 @@ impl Argument for u8 {
     }
 }
 
-/// Any number but 0 is true.
 impl Argument for bool {
     fn read(word: &[u8]) -> Result<bool, Reason> {
-        Ok(u64::read(word)? != 0)
+        match u64::read(word)? {
+            0 => Ok(false),
+            1 => Ok(true),
+            _ => Err(Reason::NotFlag),
+        }
     }
 }
 

@@ -8,6 +8,17 @@ use sysreg::regs::Regime;
 pub enum Line {
     Operation(Operation),
     Setup(Setup),
+    Load(Load),
+}
+
+/// A file's bytes go into the window.
+#[derive(Clone, Copy)]
+pub struct Load {
+    /// where the path begins in the line, and where it ends
+    pub start: usize,
+    pub end: usize,
+    /// the physical address of the first byte
+    pub addr: u64,
 }
 
 /// What has an answer, and a line of output.
@@ -91,13 +102,13 @@ pub enum Part {
     },
     FetchHint {
         page: u64,
-        level: u64,
+        level: u8,
         pa: u64,
     },
 }
 
-/// The longest window, in bytes.
-pub const LONGEST_WINDOW: usize = 0x20_0000;
+/// The longest window, in bytes: it is memory of the tool's own.
+pub const LONGEST_WINDOW: usize = 0x2000_0000;
 
 /// Whether a system operation is DC ZVA.
 pub fn zeroes_block(at: &Encoding) -> bool {
@@ -111,6 +122,17 @@ impl Operation {
             Operation::Call(Call::Store(..)) => true,
             Operation::Call(Call::System(at)) => zeroes_block(at),
             _ => false,
+        }
+    }
+}
+
+impl Line {
+    /// Whether what a walk finds may differ after it.
+    pub fn moves_tables(&self) -> bool {
+        match self {
+            Line::Operation(Operation::Call(Call::Register(_, _))) | Line::Load(_) => true,
+            Line::Operation(operation) => operation.moves_ram(),
+            Line::Setup(_) => true,
         }
     }
 }

@@ -2,7 +2,7 @@
 use crate::argument::Argument;
 use crate::lex;
 use crate::lex::{Word, Words};
-use crate::line::{LONGEST_WINDOW, Leaf, Line, Operation, Part, Poke, Setup};
+use crate::line::{LONGEST_WINDOW, Leaf, Line, Load, Operation, Part, Poke, Setup};
 use crate::reason::{Reason, Refusal};
 use cpu::call::Call;
 use exception::kind::{DataAbort, Exception, InsnAbort};
@@ -141,7 +141,7 @@ impl<'a> Reader<'a> {
             },
             b"w-fetch" => Part::FetchHint {
                 page: self.next()?,
-                level: self.wide()?,
+                level: self.next()?,
                 pa: self.next()?,
             },
             _ => return Err(name.refused(Reason::NoSuchLine)),
@@ -158,6 +158,17 @@ impl<'a> Reader<'a> {
         }
     }
 
+    // The path of a file.
+    fn load(&mut self) -> Result<Load, Refusal> {
+        let Word { column, text } = self.word()?;
+        let start = column.wrapping_sub(1);
+        Ok(Load {
+            start,
+            end: start.wrapping_add(text.len()),
+            addr: self.next()?,
+        })
+    }
+
     // The line that begins with this word.
     fn line(&mut self, name: Word<'_>) -> Result<Line, Refusal> {
         Ok(match name.text {
@@ -167,6 +178,7 @@ impl<'a> Reader<'a> {
                 len: self.length()?,
             }),
             b"zero" => Line::Setup(Setup::Zero),
+            b"load" => Line::Load(self.load()?),
             b"poke" => Line::Setup(Setup::Write {
                 addr: self.next()?,
                 value: self.next()?,
@@ -181,6 +193,12 @@ impl<'a> Reader<'a> {
 
 /// The line that stands in some bytes, without their end; nothing where they are empty or a comment alone.
 pub fn parse(bytes: &[u8]) -> Result<Option<Line>, Refusal> {
+    if bytes.starts_with(b"\xEF\xBB\xBF") {
+        return Err(Refusal {
+            column: 1,
+            reason: Reason::ByteOrderMark,
+        });
+    }
     let text = lex::before_comment(bytes);
     if let Some(k) = text.iter().position(|b| !lex::is_held(*b)) {
         return Err(Refusal {
@@ -192,8 +210,12 @@ pub fn parse(bytes: &[u8]) -> Result<Option<Line>, Refusal> {
         words: Words::new(text),
         end: bytes.len().wrapping_add(1),
     };
+    let Some(name) = reader.words.next_word() else {
+        return Ok(None);
+    };
+    let line = reader.line(name)?;
     match reader.words.next_word() {
-        Some(name) => Ok(Some(reader.line(name)?)),
-        None => Ok(None),
+        Some(word) => Err(word.refused(Reason::Surplus)),
+        None => Ok(Some(line)),
     }
 }

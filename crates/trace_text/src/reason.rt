@@ -9,6 +9,8 @@ pub enum Reason {
     NoSuchException,
     #[error("an argument is missing")]
     Missing,
+    #[error("a word after the last argument: a line has one operation")]
+    Surplus,
     #[error("not a hexadecimal number (write it without 0x)")]
     NotNumber,
     #[error("a number of more than 64 bits")]
@@ -19,15 +21,21 @@ pub enum Reason {
     Above16,
     #[error("a number of more than 8 bits, where 8 are the most")]
     Above8,
+    #[error("no flag (0 or 1)")]
+    NotFlag,
     #[error("no kind of access (1 read, 2 write, 4 fetch)")]
     NotKind,
     #[error("no regime (1, 2 or 3)")]
     NotRegime,
     #[error("a byte that no line holds outside a comment")]
     NotAscii,
+    #[error("a byte order mark: a trace is plain text, saved without it")]
+    ByteOrderMark,
+    #[error("the file's bytes do not all lie in the window")]
+    OutsideWindow,
     #[error("a line of more than 65000 bytes")]
     LongLine,
-    #[error("a window of more than 200000 bytes (2 MiB)")]
+    #[error("a window of more than 20000000 bytes (512 MiB)")]
     LongWindow,
 }
 

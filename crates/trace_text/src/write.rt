@@ -1,5 +1,5 @@
-//! Operations in the oracle's text form.
-use crate::line::{Leaf, Operation, Poke};
+//! Operations in the oracle's text form, and the other lines.
+use crate::line::{Leaf, Line, Load, Operation, Part, Poke, Setup};
 use cpu::call::Call;
 use exception::kind::Exception;
 use std::fmt;
@@ -90,6 +90,43 @@ impl fmt::Display for Operation {
             Operation::Call(c) => call(f, c),
             Operation::Leaf(l) => leaf(f, l),
             Operation::Poke(p) => poke(f, p),
+        }
+    }
+}
+
+fn part<W: fmt::Write>(f: &mut fmt::Formatter<W>, part: Part) -> fmt::Result {
+    match part {
+        Part::Word { place, value } => write!(f, "w-word {place:x} {value:x}"),
+        Part::Hint { slot, key, pa } => write!(f, "w-hint {slot:x} {key:x} {pa:x}"),
+        Part::Entry {
+            slot,
+            tag,
+            generation,
+            bits,
+            pa,
+        } => { write!(f, "w-entry {slot:x} {tag:x} {generation:x} {bits:x} {pa:x}") }
+        Part::FetchHint { page, level, pa } => write!(f, "w-fetch {page:x} {level:x} {pa:x}"),
+    }
+}
+
+impl fmt::Display for Setup {
+    fn fmt<W: fmt::Write>(&self, f: &mut fmt::Formatter<W>) -> fmt::Result {
+        match *self {
+            Setup::Fresh => f.write_str("fresh"),
+            Setup::Window { base, len } => write!(f, "window {base:x} {len:x}"),
+            Setup::Zero => f.write_str("zero"),
+            Setup::Write { addr, value } => write!(f, "poke {addr:x} {value:x}"),
+            Setup::Part(p) => part(f, p),
+        }
+    }
+}
+
+impl fmt::Display for Line {
+    fn fmt<W: fmt::Write>(&self, f: &mut fmt::Formatter<W>) -> fmt::Result {
+        match *self {
+            Line::Operation(operation) => write!(f, "{operation}"),
+            Line::Setup(setup) => write!(f, "{setup}"),
+            Line::Load(Load { addr, .. }) => write!(f, "load at {addr:x}"),
         }
     }
 }

@@ -1,0 +1,69 @@
+//! What the tool says of itself.
+use std::alloc::{AllocError, Global};
+use std::io;
+use std::io::Write;
+use strsim::levenshtein;
+
+const COMMANDS: [&str; 7] = [
+    "run", "audit", "walk", "counters", "census", "chord", "help",
+];
+
+// What each command does.
+const DETAILS: &str = "
+run      carries out a trace on the proved core and prints a line for each operation: its line number,
+         the operation, the answer, counters, registers kept and digests, as the Rust's run does; --short: no more
+         than the answer.
+audit    carries out a trace, and beside each access walks the tables afresh: shows the first answer that such a walk
+         would not give (--all: each), the line that filled the cache, the line that changed the table, and whether
+         a TLBI came between. The status is 1 where there is one.
+walk     carries out a trace, then shows one translation of ADDRESS (hexadecimal) step by step: registers,
+         range, each descriptor, the end, and what the core answers. A read at the core's level, or as named.
+         The status is 1 where the core answers otherwise than the walk.
+counters carries out a trace, then shows what the cache counted at each exception level: translations that an
+         entry answered, walks, the share of walks with a bar, the sums, and which level walks most.
+census   carries out a trace, then shows how the PAGES pages of 4 KiB from FIRST (both hexadecimal) end in a
+         fresh walk at the core's level, or as named: a table, and a map; --svg: the map as a picture.
+chord    sixteen voices, a page each, and every order of a small chord: no tone is lost; against a stale
+         cache, which loses one.
+
+TRACE is a file of lines, or - for standard input, which is carried out as it comes: tr, dpa, fpa, ld, st, if, sys,
+reg, level, mark, x, abort, census; fresh, window, zero, poke, load; leaves l-..; pokes p-..; parts w-.. Numbers are
+hexadecimal without 0x; # starts a comment. A file with a bad line gets a message `a72: FILE:LINE:COLUMN: reason`
+on standard error, and nothing else happens. --image FILE@ADDRESS: the bytes of FILE, a raw dump, are the
+window before the first line, from the physical ADDRESS on.
+";
+
+/// The calls.
+pub fn usage<W: Write>(out: &mut W) -> io::Result<()> {
+    writeln!(out, "usage: a72 run TRACE [--short]")?;
+    writeln!(out, "       a72 audit TRACE [--all]")?;
+    writeln!(
+        out,
+        "       a72 walk TRACE ADDRESS [read|write|fetch] [LEVEL]"
+    )?;
+    writeln!(out, "       a72 counters TRACE")?;
+    writeln!(out, "       a72 census TRACE FIRST PAGES [LEVEL] [--svg]")?;
+    writeln!(out, "       a72 chord")?;
+    writeln!(
+        out,
+        "       with a TRACE: [--image FILE@ADDRESS]; anywhere: -h, --help, --version"
+    )
+}
+
+/// The calls, and what each command does.
+pub fn help<W: Write>(out: &mut W) -> io::Result<()> {
+    usage(out)?;
+    write!(out, "{DETAILS}")
+}
+
+/// The command whose name is nearest to a word.
+pub fn nearest(alloc: Global, word: &str) -> Result<&'static str, AllocError> {
+    let mut best = ("help", usize::MAX);
+    for name in COMMANDS {
+        let edits = levenshtein(alloc, word, name)?;
+        if edits < best.1 {
+            best = (name, edits);
+        }
+    }
+    Ok(best.0)
+}

@@ -1,0 +1,183 @@
+//! A trace under audit: each call is asked, before it is carried out, for what it is about to answer.
+use crate::finding::Finding;
+use crate::kept::{Cause, Keeping, Kept};
+use audit::answers::{Answered, Answers};
+use audit::{answers, dropped};
+use operations::call::{Call, Reply};
+use operations::check;
+use std::alloc::{AllocError, Global};
+use std::io;
+use std::io::Write;
+use system::decode;
+use system::decode::SysOp;
+use tlb::Inval;
+use trace_core::machine::Machine;
+use trace_text::answer::Answer;
+use trace_text::line::{Line, Operation, Setup};
+
+// An invalidation that a line made.
+#[derive(Clone, Copy)]
+struct Invalidation {
+    line: Cause,
+    what: Inval,
+}
+
+/// What was seen of a trace so far.
+#[derive(Drop)]
+pub struct Auditor {
+    keeping: Keeping,
+    drops: Vec<Invalidation>,
+    /// the translations made
+    pub accesses: u64,
+    /// those of them whose answer was stale
+    pub stale: u64,
+}
+
+// The address of the first store of a DC ZVA that is not refused.
+fn zeroing(machine: &Machine, call: Call) -> Option<u64> {
+    let core = &machine.core;
+    let Call::System(e) = call else {
+        return None;
+    };
+    check::missed(
+        core.privilege.level,
+        machine.base,
+        machine.ram.len() as u64,
+        call,
+    )
+    .ok()?;
+    match decode::decode(core.privilege.level, e) {
+        SysOp::Zva => Some(core.reg(e.rt) & !63),
+        _ => None,
+    }
+}
+
+impl Auditor {
+    pub fn new(alloc: Global) -> Result<Auditor, AllocError> {
+        Ok(Auditor {
+            keeping: Keeping::new(alloc)?,
+            drops: Vec::new(alloc),
+            accesses: 0,
+            stale: 0,
+        })
+    }
+
+    // What is to be said of a stale answer.
+    fn finding(&self, line: Cause, answered: Answered, kept: Option<Kept>) -> Finding {
+        let mut finding = Finding {
+            line,
+            answered,
+            kept,
+            drops: 0,
+            covering: None,
+        };
+        if let Some(kept) = kept {
+            for drop in self.drops.iter() {
+                if kept.by.number < drop.line.number {
+                    finding.drops = finding.drops.wrapping_add(1);
+                    if dropped::covers(drop.what, kept.page, &kept.leaf, kept.asid) {
+                        finding.covering = Some(drop.line);
+                    }
+                }
+            }
+        }
+        finding
+    }
+
+    // One translation of a line.
+    fn judge<W: Write>(
+        &mut self,
+        out: &mut W,
+        machine: &Machine,
+        line: Cause,
+        answered: Answered,
+    ) -> io::Result<()> {
+        let ram = machine.ram.as_slice();
+        let kept = self
+            .keeping
+            .answer(&machine.core, machine.base, ram, line, &answered);
+        self.accesses = self.accesses.wrapping_add(1);
+        if answered.is_stale() {
+            self.stale = self.stale.wrapping_add(1);
+            write!(out, "{}", self.finding(line, answered, kept))?;
+        }
+        Ok(())
+    }
+
+    // A call: its translations, what it invalidates, and then the call.
+    fn call<W: Write>(
+        &mut self,
+        out: &mut W,
+        machine: &mut Machine,
+        line: Cause,
+        call: Call,
+    ) -> io::Result<Answer> {
+        let (core, ram) = (&machine.core, machine.ram.as_slice());
+        let answers = answers::answers_to(core, machine.base, ram, call);
+        let what = dropped::dropped(core, machine.base, ram, call);
+        match answers {
+            Answers::Nothing => {}
+            Answers::One(answered) => self.judge(out, machine, line, answered)?,
+            Answers::Two(answered, next) => {
+                self.judge(out, machine, line, answered)?;
+                self.judge(out, machine, line, next)?;
+            }
+        }
+        if let Some(what) = what {
+            self.drops.push(Invalidation { line, what })?;
+        }
+        Ok(machine.perform(Operation::Call(call)))
+    }
+
+    // DC ZVA: eight stores, up to the first that is not done.
+    fn zero<W: Write>(
+        &mut self,
+        out: &mut W,
+        machine: &mut Machine,
+        line: Cause,
+        va: u64,
+    ) -> io::Result<()> {
+        for n in 0..8u64 {
+            let store = Call::Store(va.wrapping_add(n * 8), 8, 0);
+            match self.call(out, machine, line, store)? {
+                Answer::Reply(Reply::Done) => {}
+                _ => return Ok(()),
+            }
+        }
+        Ok(())
+    }
+
+    /// Carries out a line, and writes what is to be said of each stale answer in it.
+    pub fn line<W: Write>(
+        &mut self,
+        out: &mut W,
+        machine: &mut Machine,
+        line: Cause,
+    ) -> io::Result<()> {
+        match line.line {
+            Line::Setup(setup) => {
+                machine.arrange(setup)?;
+                if matches!(setup, Setup::Fresh | Setup::Part(_)) {
+                    self.keeping.clear(machine.core.tlb.epoch);
+                    self.drops.clear();
+                }
+            }
+            Line::Operation(Operation::Call(call)) => match zeroing(machine, call) {
+                Some(va) => self.zero(out, machine, line, va)?,
+                None => {
+                    self.call(out, machine, line, call)?;
+                }
+            },
+            Line::Operation(operation) => {
+                machine.perform(operation);
+            }
+            Line::Load(_) => {}
+        }
+        self.keeping.drop_dead(&machine.core);
+        if line.line.moves_tables() {
+            let ram = machine.ram.as_slice();
+            self.keeping.follow(&machine.core, machine.base, ram, line);
+        }
+        Ok(())
+    }
+}
