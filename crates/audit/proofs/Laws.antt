@@ -3,12 +3,14 @@
 use Rattle.std.specs.Prelude.{if◌then◌else◌, ◌≡◌, refl, true, List, [], ◌∷◌, ℕ, ◌*◌, ◌/◌, ◌+◌, ◌%◌, ◌==◌, ◌≤◌, Ok, Err}
 use Rattle.std.proofs.Common.{◌∙◌, ap, sym, arith}
 use Rattle.fault.specs.First.{first}
-use Rattle.walk.specs.Regime.{bank_of, regime_of, stage1_on}
+use Rattle.walk.specs.Regime.{bank_of, stage1_on}
+use Rattle.sysreg.specs.Regs.{regime_of}
 use Rattle.walk.specs.Walk.{walk_of}
-use Rattle.walk.specs.declared.{regime.Regime.Regime, level.Leaf.Leaf}
+use Rattle.walk.specs.declared.{level.Leaf.Leaf}
+use Rattle.sysreg.specs.declared.regs.Regime.{Regime}
 use Rattle.walk.proofs.WalkBounds.{leaf-bounds}
 use Rattle.tlb.specs.Access.{judged, user_of}
-use Rattle.tlb.specs.Cells.{judged-is}
+use Rattle.tlb.proofs.Cells.{judged-is}
 use Rattle.tlb.specs.Entry.{entry_for}
 use Rattle.tlb.specs.Lists.{Each, done, more}
 use Rattle.tlb.specs.Model.{Access, as_user, need, judge}
@@ -18,7 +20,7 @@ use Rattle.system.specs.declared.decode.Encoding.{Encoding}
 use Rattle.system.specs.declared.decode.SysOp.TheVariants as Op
 use Rattle.cpu.specs.Bare.{Bare}
 use Rattle.cpu.specs.declared.Core.{Core}
-use Rattle.operations.specs.declared.call.Call.TheVariants.{System, Register}
+use Rattle.cpu.specs.declared.call.Call.TheVariants.{System, Register}
 use Rattle.history.specs.Window.{Ram, memory_of}
 use Rattle.transparency.specs.Bare.{missed_in, op_in, operand_in, written_in, ruling_in, by_write, if_allowed}
 use Rattle.transparency.specs.Claim.{answer_by, untagged_in, uncached, drops_of}

@@ -12,13 +12,13 @@ ghost use Rattle.audit.specs.Answers.{ask_of, asks_in, fresh_answer, given_in, l
 
 use cpu::Core;
 use fault::Fault;
-use operations::call::Call;
-use operations::{check, place};
+use cpu::call::Call;
+use cpu::{check, place};
 use tlb::access::{Kind, Request};
 use tlb::count::Tally;
 use tlb::entry::Entry;
 use tlb::{Tlb, count};
-use walk::regime::Regime;
+use sysreg::regs::Regime;
 use walk_report::answer::Source;
 use word::ram::Width;
 

@@ -4,14 +4,14 @@ ghost use Rattle.tlb.specs.Model.{span_bits};
 ghost use Rattle.cpu.specs.Bare.{bare_of};
 ghost use Rattle.history.specs.Window.{window_of};
 ghost use Rattle.history.specs.World.{covers};
-ghost use Rattle.operations.specs.declared.call.Call.TheVariants.{Register};
+ghost use Rattle.cpu.specs.declared.call.Call.TheVariants.{Register};
 ghost use Rattle.transparency.specs.Bare.{by_write, if_allowed, ruling_in, written_in};
 ghost use Rattle.transparency.specs.Claim.{drops_of};
 ghost use Rattle.audit.specs.Answers.{drops_in};
 
 use cpu::Core;
-use operations::call::Call;
-use operations::check;
+use cpu::call::Call;
+use cpu::check;
 use sysreg::write;
 use system::decode::SysOp;
 use system::{decode, tlbi};

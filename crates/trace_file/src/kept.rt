@@ -6,7 +6,8 @@ use std::alloc::{AllocError, Global};
 use tlb::hint;
 use trace_text::line::Line;
 use walk::level::{Leaf, Walked};
-use walk::regime::{Bank, Regime};
+use sysreg::regs::Regime;
+use walk::regime::Bank;
 use walk_report::answer::Source;
 
 const ENTRIES: usize = 1024;

@@ -1,7 +1,8 @@
 -- The leaf of the walk of now, judged.
 use Rattle.std.specs.Prelude.{◌≡◌, true, Ok}
 use Rattle.std.proofs.Common.{rules, ◌∙◌}
-use Rattle.walk.specs.Regime.{bank_of, regime_of, stage1_on}
+use Rattle.walk.specs.Regime.{bank_of, stage1_on}
+use Rattle.sysreg.specs.Regs.{regime_of}
 use Rattle.walk.specs.Walk.{walk_of}
 use Rattle.cpu.specs.Bare.{bare_of}
 use Rattle.history.specs.Window.{window_of, memory_of}

@@ -1,5 +1,5 @@
 use Rattle.std.proofs.Common.{◌<◌, ◌≤◌, ◌-◌, ◌^◌, length, refl, arith}
-use Rattle.operations.specs.declared.check.Check.TheVariants.{Level}
+use Rattle.cpu.specs.declared.check.Check.TheVariants.{Level}
 use Rattle.quick.proofs.Checks.{ram-told, ram-refused, high, clear, data-told}
 use Rattle.quick.proofs.Hinting.{unserved}
 use Rattle.quick.proofs.translation.data_rest.Goals as goal
