@@ -90,22 +90,28 @@ impl<'a> Arguments<'a> {
             options: Options::default(),
             words: others,
         };
-        let mut rest = words.iter();
-        while let Some(word) = rest.next() {
+        let mut wants_image = false;
+        for word in words {
+            let word = word.as_str();
             let options = &mut all.options;
-            match word.as_str() {
-                "--image" => match rest.next() {
-                    Some(word) => options.image = Some(image(word.as_str())?),
-                    None => return Err(Stop::Argument(Wrong::Image)),
-                },
+            if wants_image {
+                options.image = Some(image(word)?);
+                wants_image = false;
+                continue;
+            }
+            match word {
+                "--image" => wants_image = true,
                 "--short" => options.short = true,
                 "--all" => options.all = true,
                 "--svg" => options.svg = true,
                 "-h" | "--help" => options.help = true,
                 "--version" => options.version = true,
-                word if word.starts_with("--") => return Err(Stop::NoSuchOption),
-                word => all.words.push(word).map_err(AllocError::from)?,
+                _ if word.starts_with("--") => return Err(Stop::NoSuchOption),
+                _ => all.words.push(word).map_err(AllocError::from)?,
             }
+        }
+        if wants_image {
+            return Err(Stop::Argument(Wrong::Image));
         }
         Ok(all)
     }

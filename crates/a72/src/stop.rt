@@ -75,16 +75,19 @@ impl Stop {
 
 // The word after those that name no option, in their order: the command is that of place 0.
 fn word_at(words: &[String], place: usize) -> &str {
-    let mut rest = words.iter();
     let mut before = 0usize;
-    while let Some(word) = rest.next() {
-        match word.as_str() {
-            "--image" => {
-                rest.next();
+    let mut is_image = false;
+    for word in words {
+        let word = word.as_str();
+        if is_image {
+            is_image = false;
+        } else if word == "--image" {
+            is_image = true;
+        } else if !word.starts_with("--") {
+            if before == place {
+                return word;
             }
-            word if word.starts_with("--") => {}
-            word if before == place => return word,
-            _ => before = before.wrapping_add(1),
+            before = before.wrapping_add(1);
         }
     }
     ""
