@@ -5,10 +5,9 @@ ghost use Rattle.tlb.specs.Access.{is_fetch, kind_at, kind_number, may_hint, tag
 use crate::entry::Entry;
 use crate::hint;
 use fault::Fault;
-use walk::flat::flat_of;
-use walk::fsc::FSC_ADDR_SIZE;
 use sysreg::regs::Regime;
-use walk::fsc::FSC_PERMISSION;
+use walk::flat::flat_of;
+use walk::fsc::{FSC_ADDR_SIZE, FSC_PERMISSION};
 use walk::regime::Bank;
 use walk::rights::PRIV;
 
