@@ -45,10 +45,10 @@ impl Tlb {
         ensures after { AfterReady (asked a (word_at base ram.now 8)) self.old result self.new }
     {
         let regime = Regime::of_level(a.privilege.level);
-        let va = a.bank.untag(regime, a.va);
         if !a.bank.stage1_on(regime) {
-            return Some(access::flat(va));
+            return Some(access::flat(a.bank, regime, a.va));
         }
+        let va = a.bank.untag(regime, a.va);
         if let Some(e) = self.get(access::tag_of(regime, va)) {
             self.count_hit(a.privilege.level);
             return Some(e.judge(a.privilege.is_user(regime, a.kind), a.kind, a.va));
