@@ -97,7 +97,7 @@ fn by_hint<P: Purpose, const TELLS: bool>(
     }
 }
 
-// A window that ends at 2^64 or past it: the checks by name.
+// A level above 3, or a window that ends at 2^64 or past it: the checks by name.
 #[cold]
 #[inline(never)]
 fn checked<P: Purpose, const TELLS: bool>(
@@ -130,7 +130,7 @@ fn rest<P: Purpose, const TELLS: bool>(
         (asked_run TELLS va (translate_of core.old (word_at base ram.now 8) va P.KIND))) ans.old result ans.new core.new }
 {
     if 3 < core.privilege.level {
-        1
+        checked::<P, TELLS>(core, va, ans, base, ram)
     } else if u64::MAX - (ram.len() as u64) < base {
         checked::<P, TELLS>(core, va, ans, base, ram)
     } else {
@@ -180,10 +180,10 @@ fn kind_asked(core: &mut Core, va: u64, kind: u64, ans: &mut u64, base: u64, ram
         } else {
             64
         }
-    } else if kind == 4 {
-        address::<Fetching>(core, va, ans, base, ram)
     } else if kind == 2 {
         address::<Writing>(core, va, ans, base, ram)
+    } else if kind == 4 {
+        address::<Fetching>(core, va, ans, base, ram)
     } else {
         64
     }
