@@ -4,8 +4,8 @@ ghost use Rattle.word.specs.Ram.{word_at};
 ghost use Rattle.walk.specs.WalkBounds.{SoundFresh};
 ghost use Rattle.census.specs.Count.{place_of, place_at, census_of};
 
-use walk::fresh::Fresh;
 use sysreg::regs::Regime;
+use walk::fresh::Fresh;
 use walk::regime::Bank;
 
 // Where a page is counted: by the status of its fault, by 64 plus the permission byte of its leaf, or flat.

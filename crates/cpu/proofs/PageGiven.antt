@@ -172,8 +172,11 @@ module _ (s : Bank) (privilege : Privilege) (kind : Kind) where
         rw (step-looked m o true e)
         (rightly entry (user_in x) kind a r ∙ ap (λ (n : ℕ). Ok (on_page n a)) p ∙ ap Ok (or-page (page_of pa) a (omega arith)), by-its-entry m o e r p)
     given pa (by_itself m o p) =
-        rw (step-missed m false o) (flat-at (page_of x.untagged) x.untagged a (omega arith) (untagged-offset s.tcr (regime_of privilege.level) a)
-        ∙ ap (λ (y : Answer). answer_at y a) p ∙ ap Ok (omega arith), by_itself m o p)
+        rw (step-missed m false o) (
+          flat-at (page_of x.untagged) x.untagged a (omega arith) (untagged-offset s.tcr (regime_of privilege.level) a)
+              ∙ ap (λ (y : Answer). answer_at y a) p ∙ ap Ok (omega arith),
+          by_itself m o p,
+        )
 
     -- ONCE A PAGE WAS GIVEN AN ADDRESS
     module _ (f : WellFormed t) (pa : ℕ) (e : step.answer ≡ Ok pa) where

@@ -12,10 +12,10 @@ use crate::place::{FaultAt, Outside, Pages, Place};
 use crate::{Core, bytes, place};
 use exception::kind::{DataAbort, Exception, InsnAbort, Stop};
 use fault::Fault;
+use sysreg::regs::Regime;
 use tlb::access::{Kind, Request};
 use tlb::hint::FetchHint;
 use walk::fsc::FSC_EXTERNAL;
-use sysreg::regs::Regime;
 use walk::regime::Bank;
 use word::ram::Width;
 

@@ -1,14 +1,14 @@
 // An access: what it wants, who makes it, what it needs, and its answer.
 ghost use Rattle.std.specs.Prelude.{◌≡◌, ◌≤◌};
+ghost use Rattle.walk.specs.Tag.{untagged};
 ghost use Rattle.tlb.specs.Access.{is_fetch, kind_at, kind_number, may_hint, tag_of, user_of, right_of, flat_answer, judged};
 
 use crate::entry::Entry;
 use crate::hint;
 use fault::Fault;
-use walk::flat::flat_of;
-use walk::fsc::FSC_ADDR_SIZE;
 use sysreg::regs::Regime;
-use walk::fsc::FSC_PERMISSION;
+use walk::flat::flat_of;
+use walk::fsc::{FSC_ADDR_SIZE, FSC_PERMISSION};
 use walk::regime::Bank;
 use walk::rights::PRIV;
 
@@ -75,11 +75,15 @@ pub fn tag_of(regime: Regime, va: u64) -> u64
     (va >> 12) << 2 | number
 }
 
-/// The answer to an untagged address with stage 1 off: itself, or an address size fault of level 0.
-pub fn flat(untagged: u64) -> Result<u64, Fault>
-    ensures { result ≡ flat_answer untagged }
+/// The answer to `va` with stage 1 off: the address without its tag, or an address size fault of level 0. One that is
+/// small as it stands has no tag to drop.
+pub fn flat(bank: Bank, regime: Regime, va: u64) -> Result<u64, Fault>
+    ensures { result ≡ flat_answer (untagged bank.tcr regime va) }
 {
-    flat_of(untagged).ok_or(fault::first(FSC_ADDR_SIZE))
+    if let Some(pa) = flat_of(va) {
+        return Ok(pa);
+    }
+    flat_of(bank.untag(regime, va)).ok_or(fault::first(FSC_ADDR_SIZE))
 }
 
 impl Privilege {

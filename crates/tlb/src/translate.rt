@@ -44,13 +44,13 @@ impl Tlb {
         ensures after { AfterHanded (asked a (word_at base ram.now 8)) self.old result self.new }
     {
         let regime = Regime::of_level(a.privilege.level);
-        let va = a.bank.untag(regime, a.va);
         let answer = if a.bank.stage1_on(regime) {
+            let va = a.bank.untag(regime, a.va);
             let e = self.get(access::tag_of(regime, va))?;
             self.count_hit(a.privilege.level);
             e.judge(a.privilege.is_user(regime, a.kind), a.kind, a.va)
         } else {
-            access::flat(va)
+            access::flat(a.bank, regime, a.va)
         };
         self.leave_hint(a, answer);
         Some(answer)
