@@ -10,15 +10,14 @@ ghost use Rattle.history.specs.Window.{window_of};
 ghost use Rattle.transparency.specs.Claim.{access_in, answers_of, asked, sized_in, uncached};
 ghost use Rattle.audit.specs.Answers.{ask_of, asks_in, fresh_answer, given_in, listed};
 
-use cpu::Core;
-use fault::Fault;
 use cpu::call::Call;
-use cpu::{check, place};
+use cpu::{Core, check, place};
+use fault::Fault;
+use sysreg::regs::Regime;
 use tlb::access::{Kind, Request};
 use tlb::count::Tally;
 use tlb::entry::Entry;
 use tlb::{Tlb, count};
-use sysreg::regs::Regime;
 use walk_report::answer::Source;
 use word::ram::Width;
 

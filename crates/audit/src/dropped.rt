@@ -9,9 +9,8 @@ ghost use Rattle.transparency.specs.Bare.{by_write, if_allowed, ruling_in, writt
 ghost use Rattle.transparency.specs.Claim.{drops_of};
 ghost use Rattle.audit.specs.Answers.{drops_in};
 
-use cpu::Core;
 use cpu::call::Call;
-use cpu::check;
+use cpu::{Core, check};
 use sysreg::write;
 use system::decode::SysOp;
 use system::{decode, tlbi};

@@ -3,8 +3,8 @@ ghost use Rattle.std.specs.Prelude.{◌≡◌, ◌+◌};
 ghost use Rattle.call_words.specs.Walk.{bank_at, leaf_after, walk_code, walk_words};
 
 use cpu::check;
-use walk::level::Leaf;
 use sysreg::regs::Regime;
+use walk::level::Leaf;
 use walk::regime::Bank;
 use word::bits;
 

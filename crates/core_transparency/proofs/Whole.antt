@@ -7,6 +7,7 @@ use Rattle.sysreg.specs.Write.{bank, held_after, control_with, sys_with, Done, e
 use Rattle.sysreg.specs.declared.write.WriteError.TheVariants.{Undefined}
 use Rattle.sysreg.specs.declared.{regs.Control.Control, regs.SysRegs.SysRegs, regs.Regime.Regime}
 use Rattle.sysreg.specs.declared.{regs.Register.Register}
+use Rattle.sysreg.specs.declared.regs.Regime.TheVariants.{El1, El2, El3}
 use Rattle.sysreg.specs.declared.regs.Register.TheVariants.{Sctlr, Tcr, Ttbr0, Mair, Vbar, Elr, Spsr, Esr, Far}
 use Rattle.exception.specs.Entry.{same_el, at_target, updated, entered_sys, enter_of, take_sync}
 use Rattle.system.specs.declared.decode.SysOp.{SysOp}

@@ -3,10 +3,10 @@
 use audit::answers::{Answered, Ask};
 use cpu::Core;
 use std::alloc::{AllocError, Global};
+use sysreg::regs::Regime;
 use tlb::hint;
 use trace_text::line::Line;
 use walk::level::{Leaf, Walked};
-use sysreg::regs::Regime;
 use walk::regime::Bank;
 use walk_report::answer::Source;
 

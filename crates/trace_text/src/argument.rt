@@ -1,8 +1,8 @@
 //! The arguments of a line, each by its type.
 use crate::lex;
 use crate::reason::Reason;
-use tlb::access::Kind;
 use sysreg::regs::Regime;
+use tlb::access::Kind;
 
 /// What a word of a line is read as.
 pub trait Argument {

@@ -1,8 +1,8 @@
 //! The lines of a trace.
 use cpu::call::Call;
 use exception::kind::Exception;
-use system::decode::Encoding;
 use sysreg::regs::Regime;
+use system::decode::Encoding;
 
 #[derive(Clone, Copy)]
 pub enum Line {

@@ -4,11 +4,11 @@ use cpu::Core;
 use cpu::call::{Call, Reply};
 use fault::Fault;
 use std::fmt;
+use sysreg::regs::Regime;
 use tlb::access::Kind;
 use tlb::count::Tally;
 use tlb::entry::Entry;
 use walk::level::Walked;
-use sysreg::regs::Regime;
 
 /// What an access is told.
 #[derive(Clone, Copy, PartialEq, Eq)]

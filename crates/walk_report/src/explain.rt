@@ -4,8 +4,8 @@ use crate::{levels, registers};
 use cpu::Core;
 use std::io;
 use std::io::Write;
-use tlb::access::Kind;
 use sysreg::regs::Regime;
+use tlb::access::Kind;
 use tlb::count::Tally;
 use tlb::{access, count};
 

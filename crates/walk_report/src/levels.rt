@@ -5,8 +5,8 @@ ghost use Rattle.walk.specs.Walk.{walk_of};
 
 use crate::fields::{Rights, Status, bit};
 use std::fmt;
-use walk::level::{Leaf, Step, Walked};
 use sysreg::regs::Regime;
+use walk::level::{Leaf, Step, Walked};
 use walk::regime::Bank;
 use walk::table::Visit;
 use word::ram;
