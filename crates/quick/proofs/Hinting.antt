@@ -1,28 +1,30 @@
 -- A hint that is asked by one condition, on plain values.
-use Rattle.std.specs.Prelude.{if◌then◌else◌, ◌≡◌, ◌+◌, ◌-◌, ◌*◌, ◌/◌, ◌%◌, ◌^◌, ◌<◌, ◌≤◌, ◌&&◌, not, nat_le, eqb, leb, Bool, true, false, ℕ, List, length, Option, Some, None, Ok, slice_index_or}
+use Rattle.std.specs.Prelude.{if◌then◌else◌, ◌≡◌, ◌+◌, ◌-◌, ◌*◌, ◌/◌, ◌%◌, ◌^◌, ◌<◌, ◌≤◌, ◌&&◌, ◌||◌, not, nat_le, eqb, leb, Bool, true, false, ℕ, List, length, Option, Some, None, Result, Ok, Err, slice_index_or}
 use Rattle.std.specs.Bool.{then_some}
-use Rattle.std.proofs.Common.{refl, sym, ap, ◌∙◌, arith, subst, le-leb, leb-true}
+use Rattle.std.proofs.Common.{refl, sym, ap, ◌∙◌, arith, subst, eqb-true, le-leb, leb-true}
 use Rattle.std.proofs.lemmas.Bool.{lt-leb}
 use mir.Val.{bool_byte}
 use Rattle.tlb.specs.Hint.{place_of, data_slot, on_page, no_hint}
-use Rattle.tlb.specs.declared.access.Kind.TheVariants.{Read}
-use Rattle.tlb.specs.declared.{hint.Hint.Hint}
+use Rattle.tlb.specs.declared.access.Kind.TheVariants.{Read, Write}
+use Rattle.tlb.specs.declared.{access.Kind.Kind, access.NoSuchKind.NoSuchKind, hint.Hint.Hint}
 use Rattle.cpu.specs.declared.Core.{Core}
 use Rattle.tlb.specs.Translate.{hint_in}
 use Rattle.word.specs.Ram.{word_at}
 use Rattle.cpu.specs.declared.call.Call.TheVariants.{DataPa}
 use Rattle.cpu.specs.Memory.{translate_of}
 use Rattle.cpu.specs.Step.{step_of}
-use Rattle.quick.specs.Says.{Tells, served}
+use Rattle.call_words.specs.Ops.{kind_of, translate_call}
+use Rattle.call_words.specs.Replies.{code_by, value_by}
+use Rattle.quick.specs.Says.{Says, Tells, asked_reply, asked_run, ram_checked, plain, served}
 use Rattle.quick.proofs.ByHint.{hint-serves, asked-told}
-use Rattle.quick.proofs.Checks.{ram-told, clear, data-told}
+use Rattle.quick.proofs.Checks.{ram-told, clear, translate-told, data-told}
 
 pub low : (va : ℕ) → data_slot va Read < 256
 unfolding place_of
 low va = omega arith
 
 -- three tests, and the level's and mark's as one number
-all : (a f e : Bool) (x : ℕ) → then_some (e && (a && f)) x ≡ (if a && f then (if e then Some x else None) else None)
+all : (a f e : Bool) (x : ℕ) → then_some (true && (e && (a && f))) x ≡ (if a && f then (if e then Some x else None) else None)
 all true true true x = refl
 all true true false x = refl
 all true false true x = refl
@@ -37,41 +39,79 @@ never : (b : Bool) → (if b then nothing else nothing) ≡ nothing
 never true = refl
 never false = refl
 
-asked : (level key page x : ℕ) (f u : Bool) → then_some (eqb key (page + (level + bool_byte u * 256)) && (leb (level + bool_byte u * 256) 3 && f)) x
+asked : (level key page x : ℕ) (f u : Bool) → then_some (true && (eqb key (page + (level + bool_byte u * 256)) && (leb (level + bool_byte u * 256) 3 && f))) x
     ≡ (if leb level 3 && f then (if not u then (if eqb key (page + level) then Some x else None) else None) else None)
 asked level key page x f true =
     let over : leb (level + 1 * 256) 3 ≡ false = lt-leb (level + 1 * 256) 3 (omega arith) in
     let same : Bool = eqb key (page + (level + 1 * 256)) in
-    ap (λ (b : Bool). then_some (same && (b && f)) x) over ∙ all false f same x ∙ sym (never (leb level 3 && f))
+    ap (λ (b : Bool). then_some (true && (same && (b && f))) x) over ∙ all false f same x ∙ sym (never (leb level 3 && f))
 asked level key page x f false =
     let same : level + 0 * 256 ≡ level = omega arith in
-    ap (λ (n : ℕ). then_some (eqb key (page + n) && (leb n 3 && f)) x) same ∙ all (leb level 3) f (eqb key (page + level)) x
+    ap (λ (n : ℕ). then_some (true && (eqb key (page + n) && (leb n 3 && f))) x) same ∙ all (leb level 3) f (eqb key (page + level)) x
 
-module _ (c : Core) (va base len : ℕ) where
+module _ (c : Core) (va base len s : ℕ) (es : s ≡ data_slot va Read) where
+  abbrev hint : ℕ → Hint
+  hint i = slice_index_or c.tlb.hints i no_hint
+
+  abbrev found : ℕ → Hint
+  found kind = hint (s + kind / 2 % 2 * 256)
+
   abbrev asker : ℕ
   asker = c.privilege.level + bool_byte c.privilege.unprivileged * 256
 
   abbrev fits : Bool
   fits = leb base (2 ^ 64 - 1 - len)
 
-  abbrev by : Hint → ℕ → ℕ → Option ℕ
-  by h page pa = then_some (eqb h.key (page + asker) && (leb asker 3 && fits)) pa
+  abbrev at : Bool → ℕ → ℕ → Option ℕ
+  at known i page = then_some (known && (eqb (hint i).key (page + asker) && (leb asker 3 && fits))) (on_page (hint i).pa va)
 
-  abbrev at : ℕ → Hint
-  at i = slice_index_or c.tlb.hints i no_hint
-
-  pub serves : (s : ℕ) (h : Hint) (pa : ℕ) → s ≡ data_slot va Read → h ≡ at s → pa ≡ on_page h.pa va → by h (va - va % 4096) pa ≡ served c base len va
-  serves s h pa es eh ep =
+  -- of a read or a write, whose place is i
+  placed : (i : ℕ) → at true i (va - va % 4096) ≡ (if plain c base len then (if not c.privilege.unprivileged then (if eqb (hint i).key (va / 4096 * 4096 + c.privilege.level) then Some (on_page (hint i).pa va) else None) else None) else None)
+  placed i =
       let page : va - va % 4096 ≡ va / 4096 * 4096 = omega arith in
-      ap (by h (va - va % 4096)) ep
-      ∙ ap (λ (x : Hint). by x (va - va % 4096) (on_page x.pa va)) (eh ∙ ap at es)
-      ∙ ap (λ (p : ℕ). by (at (data_slot va Read)) p (on_page (at (data_slot va Read)).pa va)) page
-      ∙ asked c.privilege.level (at (data_slot va Read)).key (va / 4096 * 4096) (on_page (at (data_slot va Read)).pa va) fits c.privilege.unprivileged
+      ap (at true i) page ∙ asked c.privilege.level (hint i).key (va / 4096 * 4096) (on_page (hint i).pa va) fits c.privilege.unprivileged
+
+  read : at true (s + 0) (va - va % 4096) ≡ (if plain c base len then hint_in c.privilege va Read c.tlb else None)
+  read =
+      let e : s + 0 ≡ data_slot va Read = omega (arith, es) in
+      ap (λ (i : ℕ). at true i (va - va % 4096)) e ∙ placed (data_slot va Read)
+
+  write : at true (s + 256) (va - va % 4096) ≡ (if plain c base len then hint_in c.privilege va Write c.tlb else None)
+  write =
+      let e : s + 256 ≡ data_slot va Write = omega (arith, es) in
+      ap (λ (i : ℕ). at true i (va - va % 4096)) e ∙ placed (data_slot va Write)
+
+  abbrev shown : ℕ → Option ℕ
+  shown kind = at (eqb kind 1 || eqb kind 2) (s + kind / 2 % 2 * 256) (va - va % 4096)
+
+  abbrev meant : ℕ → Option ℕ
+  meant kind = served c base len va (kind_of kind)
+
+  abbrev agree : ℕ → Type 0
+  agree kind = shown kind ≡ meant kind
+
+  rest : (kind : ℕ) (is4 : Bool) → eqb kind 4 ≡ is4 → eqb kind 1 ≡ false → eqb kind 2 ≡ false → agree kind
+  rest kind true e4 e1 e2 = rw (e1, e2, e4) (sym (never (plain c base len)))
+  rest kind false e4 e1 e2 = rw (e1, e2, e4) refl
+
+  writes : (kind : ℕ) (is2 : Bool) → eqb kind 2 ≡ is2 → eqb kind 1 ≡ false → agree kind
+  writes kind true e2 e1 = subst agree (sym (eqb-true kind 2 e2)) write
+  writes kind false e2 e1 = rest kind (eqb kind 4) refl e1 e2
+
+  reads : (kind : ℕ) (is1 : Bool) → eqb kind 1 ≡ is1 → agree kind
+  reads kind true e1 = subst agree (sym (eqb-true kind 1 e1)) read
+  reads kind false e1 = writes kind (eqb kind 2) refl e1
+
+  abbrev by : ℕ → Hint → ℕ → Option ℕ
+  by kind h pa = then_some ((eqb kind 1 || eqb kind 2) && (eqb h.key (va - va % 4096 + asker) && (leb asker 3 && fits))) pa
+
+  pub serves : (kind : ℕ) (h : Hint) (pa : ℕ) → h ≡ found kind → pa ≡ on_page h.pa va → by kind h pa ≡ served c base len va (kind_of kind)
+  serves kind h pa eh ep = ap (by kind h) ep ∙ ap (λ (x : Hint). by kind x (on_page x.pa va)) eh ∙ reads kind (eqb kind 1) refl
 
 -- WHAT WAS NOT SERVED
 module _ (c : Core) (va base len : ℕ) where
-  pub unserved : c.privilege.level < 4 → base ≤ 2 ^ 64 - 1 - len → served c base len va ≡ None → hint_in c.privilege va Read c.tlb ≡ None
-  unserved low fits h =
+  pub unserved : (k : Kind) → c.privilege.level < 4 → base ≤ 2 ^ 64 - 1 - len → served c base len va (Ok k) ≡ None → hint_in c.privilege va k c.tlb ≡ None
+  unserved k low fits h =
       let level : nat_le c.privilege.level 3 ≡ true = le-leb c.privilege.level 3 (omega (arith, low)) in
       let window : nat_le base (2 ^ 64 - 1 - len) ≡ true = le-leb base (2 ^ 64 - 1 - len) fits in
       sym (rw (level, window) refl) ∙ h
@@ -90,11 +130,20 @@ module _ (c : Core) (base : ℕ) (ram : List ℕ) (va : ℕ) (long : length ram 
   abbrev memory : ℕ → Option ℕ
   memory = word_at base ram 8
 
-  pub data-served : (pa : ℕ) → served c base (length ram) va ≡ Some pa → (old : ℕ) → Tells (step_of c base ram (DataPa va)) old 0 pa c
-  data-served pa e old =
-      let s = split (nat_le c.privilege.level 3) (nat_le base (2 ^ 64 - 1 - length ram)) (hint_in c.privilege va Read c.tlb) pa e in
+  told : (k : Kind) (pa : ℕ) → served c base (length ram) va (Ok k) ≡ Some pa → (b : Bool) (old : ℕ)
+      → Tells (ram_checked c base ram (asked_run b va (translate_of c memory va k))) old (code_by (asked_reply b va (Ok pa))) (value_by (asked_reply b va (Ok pa)) old) c
+  told k pa e b old =
+      let s = split (nat_le c.privilege.level 3) (nat_le base (2 ^ 64 - 1 - length ram)) (hint_in c.privilege va k c.tlb) pa e in
       let level : c.privilege.level ≤ 3 = leb-true c.privilege.level 3 s.0 in
       let low : c.privilege.level < 4 = omega (arith, level) in
       let fits : base ≤ 2 ^ 64 - 1 - length ram = leb-true base (2 ^ 64 - 1 - length ram) s.1 in
-      data-told c base ram va old 0 pa c (ram-told c base ram _ (clear c base ram low long fits) _ _ _ _
-      (asked-told c memory va Read c (Ok pa) false (sym (hint-serves c memory va Read pa s.2)) old _ _ (refl, refl)))
+      ram-told c base ram _ (clear c base ram low long fits) _ _ _ _
+      (asked-told c memory va k c (Ok pa) b (sym (hint-serves c memory va k pa s.2)) old _ _ (refl, refl))
+
+  pub data-served : (pa : ℕ) → served c base (length ram) va (Ok Read) ≡ Some pa → (old : ℕ) → Tells (step_of c base ram (DataPa va)) old 0 pa c
+  data-served pa e old = data-told c base ram va old 0 pa c (told Read pa e false old)
+
+  pub kind-served : (r : Result Kind NoSuchKind) (pa : ℕ) → served c base (length ram) va r ≡ Some pa → (old : ℕ) → Says (translate_call r va) c base ram old 0 pa c
+  unfolding translate_call
+  kind-served (Ok k) pa e old = translate-told c base ram va old 0 pa c k (told k pa e true old)
+  kind-served (Err x) pa e old = absurd (subst is_at (sym e) tt)

@@ -1,5 +1,5 @@
 -- What a call on a core says: its number, its word, and the core that it leaves.
-use Rattle.std.specs.Prelude.{if◌then◌else◌, ◌≡◌, ◌-◌, ◌^◌, ◌&&◌, nat_le, Bool, true, false, List, ℕ, length, Option, Some, None, Ok}
+use Rattle.std.specs.Prelude.{if◌then◌else◌, ◌≡◌, ◌-◌, ◌^◌, ◌&&◌, nat_le, Bool, true, false, List, ℕ, length, Option, Some, None, Result, Ok, Err}
 use Rattle.cpu.specs.declared.Core.{Core}
 use Rattle.word.specs.Ram.{word_at}
 use Rattle.cpu.specs.Memory.{with_tlb, loaded_by, read_of, stored_by, write_of, ram_after_write, fetched_by, fetch_of, fetch_pa_of}
@@ -9,7 +9,6 @@ use Rattle.tlb.specs.Translate.{fetch_left, hint_in}
 use Rattle.cpu.specs.Place.{placed_one}
 use Rattle.cpu.specs.Ends.{load_end, store_end, store_ram_end, fetch_end, reached_by}
 use Rattle.tlb.specs.declared.access.{Kind.Kind, NoSuchKind.NoSuchKind}
-use Rattle.tlb.specs.declared.access.Kind.TheVariants.{Read}
 use Rattle.cpu.specs.System.{done_with, zero_of, zero_ram}
 use Rattle.cpu.specs.Check.{first_of, ram_rows}
 use Rattle.cpu.specs.Replies.{translation, reaching}
@@ -52,13 +51,14 @@ asked_reply false va a = reaching (reached_by a)
 abbrev pub asked_run : Bool → ℕ → Translated → Stepped
 asked_run tells va t = ends t.core (asked_reply tells va t.answer)
 
--- A READ AT ONCE BY ITS HINT: at a known level, with a window that ends at the last address or before
+-- AT ONCE BY THE DATA HINT: at a known level, with a window that ends at the last address or before
 
 abbrev pub plain : Core → ℕ → ℕ → Bool
 plain c base len = nat_le c.privilege.level 3 && nat_le base (2 ^ 64 - 1 - len)
 
-abbrev pub served : Core → ℕ → ℕ → ℕ → Option ℕ
-served c base len va = if plain c base len then hint_in c.privilege va Read c.tlb else None
+abbrev pub served : Core → ℕ → ℕ → ℕ → Result Kind NoSuchKind → Option ℕ
+served c base len va (Ok k) = if plain c base len then hint_in c.privilege va k c.tlb else None
+served c base len va (Err e) = None
 
 -- AN ACCESS OF ONE PAGE, on the core that its translation left
 

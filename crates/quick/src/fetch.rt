@@ -113,7 +113,7 @@ fn by_hint<const INSN: bool>(core: &mut Core, va: u64, ans: &mut u64, base: u64,
     }
 }
 
-// A window that ends at 2^64 or past it: the checks by name.
+// A level above 3, or a window that ends at 2^64 or past it: the checks by name.
 #[cold]
 #[inline(never)]
 fn checked<const INSN: bool>(core: &mut Core, va: u64, ans: &mut u64, base: u64, ram: &[u8]) -> u64
@@ -132,7 +132,7 @@ fn asked<const INSN: bool>(core: &mut Core, va: u64, ans: &mut u64, base: u64, r
         ans.old result ans.new core.new }
 {
     if 3 < core.privilege.level {
-        1
+        checked::<INSN>(core, va, ans, base, ram)
     } else if u64::MAX - (ram.len() as u64) < base {
         checked::<INSN>(core, va, ans, base, ram)
     } else {

@@ -132,7 +132,7 @@ fn load_as<W: Datum>(core: &mut Core, va: u64, ans: &mut u64, base: u64, ram: &[
     ensures { Tells (step_of core.old base ram.now (Call.Load va (bytes_in W.WIDTH))) ans.old result ans.new core.new }
 {
     if 3 < core.privilege.level {
-        1
+        checked(core, va, W::WIDTH.bytes(), ans, base, ram)
     } else if u64::MAX - (ram.len() as u64) < base {
         checked(core, va, W::WIDTH.bytes(), ans, base, ram)
     } else {

@@ -190,7 +190,7 @@ fn store_as<W: Datum>(
     ensures ram { ram.new ≡ ram_after core.old base ram.old (Call.Store va (bytes_in W.WIDTH) value) }
 {
     if 3 < core.privilege.level {
-        1
+        checked(core, va, W::WIDTH.bytes(), value, ans, base, ram)
     } else if u64::MAX - (ram.len() as u64) < base {
         checked(core, va, W::WIDTH.bytes(), value, ans, base, ram)
     } else {

@@ -1,6 +1,6 @@
 // One translation on a core that is lent, and where a data read goes: the number, and the address in ans. Both are one
 // text: TELLS says whether a fault is told by its status, or as no more than that.
-ghost use Rattle.std.specs.Prelude.{◌≡◌, ℕ, length, None};
+ghost use Rattle.std.specs.Prelude.{◌≡◌, ℕ, length, None, Ok};
 ghost use Rattle.word.specs.Ram.{word_at};
 ghost use Rattle.tlb.specs.Translate.{hint_in};
 ghost use Rattle.cpu.specs.Ends.{reached_by};
@@ -97,7 +97,7 @@ fn by_hint<P: Purpose, const TELLS: bool>(
     }
 }
 
-// A window that ends at 2^64 or past it: the checks by name.
+// A level above 3, or a window that ends at 2^64 or past it: the checks by name.
 #[cold]
 #[inline(never)]
 fn checked<P: Purpose, const TELLS: bool>(
@@ -116,46 +116,41 @@ fn checked<P: Purpose, const TELLS: bool>(
     }
 }
 
+// What is not served at once: the level, the window, and past the hint.
 #[inline(always)]
-fn asked<P: Purpose, const TELLS: bool>(
+fn rest<P: Purpose, const TELLS: bool>(
     core: &mut Core,
     va: u64,
     ans: &mut u64,
     base: u64,
     ram: &[u8],
 ) -> u64
+    requires not_served { served core.old base (length ram.now) va (Ok P.KIND) ≡ None }
     ensures { Tells (ram_checked core.old base ram.now
         (asked_run TELLS va (translate_of core.old (word_at base ram.now 8) va P.KIND))) ans.old result ans.new core.new }
 {
     if 3 < core.privilege.level {
-        1
+        checked::<P, TELLS>(core, va, ans, base, ram)
     } else if u64::MAX - (ram.len() as u64) < base {
         checked::<P, TELLS>(core, va, ans, base, ram)
     } else {
-        by_hint::<P, TELLS>(core, va, ans, base, ram)
+        past_hint::<P, TELLS>(core, va, ans, base, ram)
     }
 }
 
-// What is not served at once: the level, the window, and past the hint.
 #[inline(never)]
 fn data_rest(core: &mut Core, va: u64, ans: &mut u64, base: u64, ram: &[u8]) -> u64
-    requires not_served { served core.old base (length ram.now) va ≡ None }
+    requires not_served { served core.old base (length ram.now) va (Ok Read) ≡ None }
     ensures { Tells (step_of core.old base ram.now (Call.DataPa va)) ans.old result ans.new core.new }
 {
-    if 3 < core.privilege.level {
-        1
-    } else if u64::MAX - (ram.len() as u64) < base {
-        checked::<Reading, false>(core, va, ans, base, ram)
-    } else {
-        past_hint::<Reading, false>(core, va, ans, base, ram)
-    }
+    rest::<Reading, false>(core, va, ans, base, ram)
 }
 
 /// Where a data read of va goes.
 pub fn data_pa(core: &mut Core, va: u64, ans: &mut u64, base: u64, ram: &[u8]) -> u64
     ensures { Tells (step_of core.old base ram.now (Call.DataPa va)) ans.old result ans.new core.new }
 {
-    match hint::served(core, va, base, ram.len() as u64) {
+    match hint::served(core, va, 1, base, ram.len() as u64) {
         Some(pa) => {
             *ans = pa;
             0
@@ -166,14 +161,17 @@ pub fn data_pa(core: &mut Core, va: u64, ans: &mut u64, base: u64, ram: &[u8]) -
 
 #[inline(always)]
 fn address<P: Purpose>(core: &mut Core, va: u64, ans: &mut u64, base: u64, ram: &[u8]) -> u64
+    requires not_served { served core.old base (length ram.now) va (Ok P.KIND) ≡ None }
     ensures { Tells (step_of core.old base ram.now (Call.Translate P.KIND va)) ans.old result ans.new core.new }
 {
-    asked::<P, true>(core, va, ans, base, ram)
+    rest::<P, true>(core, va, ans, base, ram)
 }
 
-/// The translation of va for an access of a kind: 1 read, 2 write, 4 fetch.
+// By kind. Its arguments are those of the call in their order, so that it is jumped to.
+#[inline(never)]
 #[tactic(auto, unfolding(call_words::specs::Ops::translate_call))]
-pub fn translate(core: &mut Core, va: u64, kind: u64, ans: &mut u64, base: u64, ram: &[u8]) -> u64
+fn kind_asked(core: &mut Core, va: u64, kind: u64, ans: &mut u64, base: u64, ram: &[u8]) -> u64
+    requires not_served { served core.old base (length ram.now) va (kind_of kind) ≡ None }
     ensures { Says (translate_call (kind_of kind) va) core.old base ram.now ans.old result ans.new core.new }
 {
     if kind < 2 {
@@ -188,5 +186,19 @@ pub fn translate(core: &mut Core, va: u64, kind: u64, ans: &mut u64, base: u64, 
         address::<Fetching>(core, va, ans, base, ram)
     } else {
         64
+    }
+}
+
+/// The translation of va for an access of a kind: 1 read, 2 write, 4 fetch.
+#[tactic(auto, unfolding(call_words::specs::Ops::translate_call))]
+pub fn translate(core: &mut Core, va: u64, kind: u64, ans: &mut u64, base: u64, ram: &[u8]) -> u64
+    ensures { Says (translate_call (kind_of kind) va) core.old base ram.now ans.old result ans.new core.new }
+{
+    match hint::served(core, va, kind, base, ram.len() as u64) {
+        Some(pa) => {
+            *ans = pa;
+            0
+        }
+        None => kind_asked(core, va, kind, ans, base, ram),
     }
 }

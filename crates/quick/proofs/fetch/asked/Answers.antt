@@ -1,12 +1,6 @@
-use Rattle.std.proofs.Common.{◌<◌, ◌≤◌, ◌-◌, ◌^◌, length, refl, arith}
-use Rattle.cpu.specs.declared.check.Check.TheVariants.{Level}
-use Rattle.quick.proofs.Checks.{ram-told, ram-refused, high, clear}
+use Rattle.std.proofs.Common.{◌<◌, ◌≤◌, ◌-◌, ◌^◌, length, arith}
+use Rattle.quick.proofs.Checks.{ram-told, clear}
 use Rattle.quick.proofs.fetch.asked.Goals as goal
-
-pub returns-then-core-gt3 : goal.returns-then-core-gt3
-returns-then-core-gt3 g c =
-    let over : 3 < c.args.core.now.privilege.level = omega (arith, c.if-core-gt3.true) in
-    ram-refused c.args.core.now c.args.base c.args.ram.now _ Level (high c.args.core.now c.args.base c.args.ram.now over) _ _ refl
 
 pub returns-else-ram-base : goal.returns-else-ram-base
 returns-else-ram-base g c =

@@ -10,4 +10,4 @@ hint_at-found-requires c =
 pub returns : goal.returns
 returns c =
     c.then_some.ensures
-    ∙ serves c.args.core.now c.args.va c.args.base c.args.len c.data_slot.result _ _ c.data_slot.ensures.value c.hint_at-found.ensures c.on_page.ensures
+    ∙ serves c.args.core.now c.args.va c.args.base c.args.len c.data_slot.result c.data_slot.ensures.value c.args.kind _ _ c.hint_at-found.ensures c.on_page.ensures

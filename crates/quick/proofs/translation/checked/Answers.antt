@@ -1,9 +1,5 @@
 use Rattle.std.proofs.Common.{sym, ap, ◌∙◌}
 use Rattle.cpu.specs.Check.{number_missed}
-use Rattle.word.specs.Ram.{word_at}
-use Rattle.tlb.specs.Translate.{hint_in}
-use Rattle.tlb.specs.declared.access.Kind.{Kind}
-use Rattle.quick.proofs.ByHint.{hint-serves, asked-told}
 use Rattle.quick.proofs.Checks.{ram-told, ram-refused}
 use Rattle.quick.proofs.translation.checked.Goals as goal
 

@@ -1,26 +1,5 @@
-use Rattle.std.proofs.Common.{◌<◌, ◌≤◌, ◌-◌, ◌^◌, length, refl, arith}
-use Rattle.cpu.specs.declared.check.Check.TheVariants.{Level}
-use Rattle.quick.proofs.Checks.{ram-told, ram-refused, high, clear, data-told}
-use Rattle.quick.proofs.Hinting.{unserved}
+use Rattle.quick.proofs.Checks.{data-told}
 use Rattle.quick.proofs.translation.data_rest.Goals as goal
 
-pub returns-then-core-gt3 : goal.returns-then-core-gt3
-returns-then-core-gt3 c =
-    let over : 3 < c.args.core.now.privilege.level = omega (arith, c.if-core-gt3.true) in
-    data-told _ _ _ _ _ _ _ _ (ram-refused c.args.core.now c.args.base c.args.ram.now _ Level (high c.args.core.now c.args.base c.args.ram.now over) _ _ refl)
-
-pub returns-then-ram-base : goal.returns-then-ram-base
-returns-then-ram-base c = data-told _ _ _ _ _ _ _ _ c.checked.ensures
-
-pub past_hint-requires : goal.past_hint-requires
-past_hint-requires c =
-    let low : c.args.core.now.privilege.level < 4 = omega (arith, c.if-core-gt3.false) in
-    let fits : c.args.base ≤ 2 ^ 64 - 1 - length c.args.ram.now = omega (arith, c.if-ram-base.false) in
-    record { no_hint = unserved c.args.core.now c.args.va c.args.base (length c.args.ram.now) low fits c.requires.not_served }
-
-pub returns-else-ram-base : goal.returns-else-ram-base
-returns-else-ram-base c =
-    let low : c.args.core.now.privilege.level < 4 = omega (arith, c.if-core-gt3.false) in
-    let long : length c.args.ram.now < 2 ^ 64 = omega arith in
-    let fits : c.args.base ≤ 2 ^ 64 - 1 - length c.args.ram.now = omega (arith, c.if-ram-base.false) in
-    data-told _ _ _ _ _ _ _ _ (ram-told c.args.core.now c.args.base c.args.ram.now _ (clear c.args.core.now c.args.base c.args.ram.now low long fits) _ _ _ _ c.past_hint.ensures)
+pub returns : goal.returns
+returns c = data-told _ _ _ _ _ _ _ _ c.rest.ensures
