@@ -10,11 +10,12 @@ ghost use Rattle.history.specs.Window.{window_of};
 ghost use Rattle.transparency.specs.Claim.{access_in, answers_of, asked, sized_in, uncached};
 ghost use Rattle.audit.specs.Answers.{ask_of, asks_in, fresh_answer, given_in, listed};
 
+use crate::translate;
 use cpu::call::Call;
 use cpu::{Core, check, place};
 use fault::Fault;
 use sysreg::regs::Regime;
-use tlb::access::{Kind, Request};
+use tlb::access::{self, Kind, Request};
 use tlb::count::Tally;
 use tlb::entry::Entry;
 use tlb::{Tlb, count};
@@ -124,7 +125,7 @@ fn fresh(core: &Core, base: u64, ram: &[u8], kind: Kind, va: u64) -> Result<u64,
     let regime = Regime::of_level(core.privilege.level);
     let bank = core.bank();
     if !bank.stage1_on(regime) {
-        return Ok(va);
+        return access::flat(bank, regime, va);
     }
     let leaf = bank
         .walk(regime, bank.untag(regime, va), base, ram)
@@ -169,13 +170,13 @@ pub fn answer(core: &Core, tlb: &mut Tlb, base: u64, ram: &[u8], ask: Ask) -> An
     match ask {
         Ask::Translates(kind, va) => Answered {
             ask,
-            core: tlb.translate(request(core, va, kind), base, ram),
+            core: translate::translate(tlb, request(core, va, kind), base, ram),
             fresh: fresh(core, base, ram, kind, va),
             source: source(core, before, tlb),
         },
         Ask::Fetches(va) => Answered {
             ask,
-            core: tlb.translate_fetch(request(core, va, Kind::Fetch), base, ram),
+            core: translate::translate_fetch(tlb, request(core, va, Kind::Fetch), base, ram),
             fresh: fresh(core, base, ram, Kind::Fetch, va),
             source: source(core, before, tlb),
         },
