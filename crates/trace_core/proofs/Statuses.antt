@@ -1,16 +1,17 @@
 -- A status is a byte, of every core that its type allows: a walk's is below 24, a permission fault's is 0x0C or the
--- level of an entry, and an external abort's is 0x10. So a call's number is below 512.
+-- level of an entry, a flat address's is 0 and an external abort's 0x10. So a call's number is below 512.
 use Rattle.std.specs.Prelude.{if◌then◌else◌, ◌≡◌, refl, true, false, Bool, List, [], ◌∷◌, length, ℕ, zero, suc, ◌^◌, ◌<◌, slice_index_or, slice_set, Option, Some, None, Ok, Err, bit_or}
 use Rattle.std.proofs.Common.{arith}
 use Rattle.std.proofs.lemmas.Nat.{or_of_8}
 use Rattle.fault.specs.First.{first}
 use Rattle.walk.specs.Answers.{Walked}
+use Rattle.walk.specs.Flat.{flat_by}
 use Rattle.walk.specs.Regime.{stage1_on}
 use Rattle.sysreg.specs.Regs.{regime_of}
 use Rattle.walk.specs.Tag.{untagged}
 use Rattle.walk.specs.declared.{regime.Bank.Bank}
 use Rattle.walk.proofs.WalkBounds.{leaf-bounds, fault-status, status-small}
-use Rattle.tlb.specs.Access.{judged, has_right, right_of, may_hint, user_of}
+use Rattle.tlb.specs.Access.{flat_answer, flat_end, judged, has_right, right_of, may_hint, user_of}
 use Rattle.tlb.specs.Answers.{Answer, Outcome}
 use Rattle.tlb.specs.Entry.{blank, entry_for, slot_of}
 use Rattle.tlb.specs.Hint.{data_slot, fetch_found, hint_for, on_page}
@@ -44,6 +45,10 @@ judged-byte e user kind va h = go (has_right e.perms (right_of kind user))
     go true = tt
     go false = or_of_8 12 e.level (omega arith) h
 
+flat-byte : (o : Option ℕ) → Byte (flat_end o)
+flat-byte (Some pa) = tt
+flat-byte None = omega arith
+
 -- ONE TRANSLATION: its answer, and the cache that it leaves
 
 abbrev Kept : Outcome Tlb → Type 0
@@ -71,9 +76,9 @@ module _ (s : Bank) (privilege : Privilege) (memory : ℕ → Option ℕ) (va : 
       looked true = (judged-byte (entry_at t (slot_of (tag_in asks))) (user_of asks.regime privilege kind) kind va (each-getD blank (omega arith) l _), l)
       looked false = walked-kept t asks.walk refl l
 
-      go : (b : Bool) → Kept (if b then looked_in (get_of t (tag_in asks)) asks t else record { answer = Ok va; after = t })
+      go : (b : Bool) → Kept (if b then looked_in (get_of t (tag_in asks)) asks t else record { answer = flat_answer asks.untagged; after = t })
       go true = looked _
-      go false = (tt, l)
+      go false = (flat-byte (flat_by asks.untagged), l)
 
   hint-kept : (a : Answer) (t : Tlb) → Levels t → Levels (hint_left privilege va kind a t)
   hint-kept (Ok pa) t l = go (may_hint privilege kind)
@@ -90,12 +95,16 @@ module _ (s : Bank) (privilege : Privilege) (memory : ℕ → Option ℕ) (va : 
       go (Some pa) = (tt, l)
       go None = let m = miss-kept t l in (m.0, hint-kept (miss_in asks t).answer (miss_in asks t).after m.1)
 
-  fetch-byte : (t : Tlb) → Levels t → Byte (fetch_in asks t).answer
+module _ (s : Bank) (privilege : Privilege) (memory : ℕ → Option ℕ) (va : ℕ) where
+  abbrev fetches : Access
+  fetches = access_of s privilege va Fetch memory
+
+  fetch-byte : (t : Tlb) → Levels t → Byte (fetch_in fetches t).answer
   fetch-byte t l = go (fetch_found t.fetch privilege.level va)
     where
-      go : (h : Option ℕ) → Byte (fetch_tried h asks t).answer
+      go : (h : Option ℕ) → Byte (fetch_tried h fetches t).answer
       go (Some pa) = tt
-      go None = (miss-kept t l).0
+      go None = (miss-kept s privilege memory va Fetch t l).0
 
 -- AN ACCESS
 
@@ -127,7 +136,7 @@ module _ (c : Core) (fits : Fits c) where
 
   pub fetched-byte : (memory : ℕ → Option ℕ) (va : ℕ) → Byte (fetch_stepped_now c memory va).answer
   unfolding fetch_stepped_now translate_fetch_in
-  fetched-byte memory va = fetch-byte (bank_now c) c.privilege memory va Fetch c.tlb levels
+  fetched-byte memory va = fetch-byte (bank_now c) c.privilege memory va c.tlb levels
 
   pub located-byte : (memory : ℕ → Option ℕ) (va n : ℕ) (kind : Kind) → PlacedByte (located_now c memory va n kind).placed
   unfolding located_now located_of translate_in
