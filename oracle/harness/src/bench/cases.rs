@@ -7,6 +7,7 @@ use pimu::aarch64::sysreg::key;
 const HINT: f64 = 1.05;
 const ENTRY: f64 = 1.1;
 const WALK: f64 = 1.05;
+const OFF: f64 = 1.15;
 const ACCESS_ENTRY: f64 = 1.15;
 const SPLIT: f64 = 1.2;
 const UPKEEP: f64 = 1.2;
@@ -114,7 +115,7 @@ fn translations() -> Vec<Case> {
             here,
             unmapped,
         ),
-        case("translate: stage 1 off", None, READ, hints, off),
+        case("translate: stage 1 off", OFF, READ, hints, off),
         case("data_pa: hint hit", HINT, Work::DataPa, here, scene()),
         case("data_pa: entry hit", ENTRY, Work::DataPa, hints, scene()),
     ]
