@@ -249,7 +249,8 @@ static void census(void) {
     a72_save(core, after);
     MUST(all == A72_MOST_PAGES && memcmp(before, after, sizeof before) == 0);
     a72_level(core, 3);
-    MUST(a72_census(core, UINT64_MAX, 1, counts, BASE, ram, LEN) == A72_DONE && counts[A72_COUNT_FLAT] == 1);
+    MUST(a72_census(core, (UINT64_C(1) << 44) - 1, 1, counts, BASE, ram, LEN) == A72_DONE && counts[A72_COUNT_FLAT] == 1);
+    MUST(a72_census(core, UINT64_MAX, 1, counts, BASE, ram, LEN) == A72_DONE && counts[A72_COUNT_STATUS] == 1);
     a72_level(core, 1);
 }
 
