@@ -23,7 +23,7 @@ fail() { bad=$((bad + 1)); echo "differs: $1"; }
 # same TRACE NAME: the two outputs are one.
 same() {
     "$tool" run "$1" >"$work/ours" 2>"$work/err"
-    "$rust/run" "$1" >"$work/rust" 2>/dev/null
+    "$rust/run" --right "$1" >"$work/rust" 2>/dev/null
     if [ -s "$work/rust" ] && cmp -s "$work/ours" "$work/rust" && [ ! -s "$work/err" ]; then pass; else fail "$2"; fi
 }
 

@@ -3,10 +3,11 @@ use harness::cli::Args;
 use harness::{feed, Line, Ram};
 use std::io::Write;
 
-const USAGE: &str = "run TRACE [--full] [--model | --c | --each]
+const USAGE: &str = "run TRACE [--full] [--right | --model | --c | --each]
   A line for each operation: its line number, the operation, the answer, the state after it. --full: the whole state
-  too, and every count of a census that is not 0. On the Rust; --model: on the model; --c: on the core behind the C
-  boundary (--each: by its function for each operation).";
+  too, and every count of a census that is not 0. On the Rust; --right: on the Rust in its domain
+  and the model outside it; --model: on the model; --c: on the core behind the C boundary (--each: by its function for each
+  operation).";
 
 /// Whether a line may change RAM: its digest is the dear part.
 fn moves_ram(line: &Line) -> bool {
@@ -17,9 +18,13 @@ fn moves_ram(line: &Line) -> bool {
 }
 
 fn main() -> std::io::Result<()> {
-    let args = Args::new(USAGE, &["--full", "--model", "--c", "--each"], &[]);
+    let args = Args::new(USAGE, &["--full", "--right", "--model", "--c", "--each"], &[]);
     args.expect_words(1);
-    let mut core = args.one_core();
+    let mut core = if args.flag("--right") {
+        args.right_core()
+    } else {
+        args.one_core()
+    };
     let mut ram = Ram::default();
     let mut digest = ram.digest();
     let mut out = std::io::BufWriter::new(std::io::stdout().lock());
