@@ -1,5 +1,5 @@
 #!/bin/sh
-# The tool beside the Rust: `a72 run` against the oracle's `run` on every recorded trace and on generated ones; then the samples of the documents, the counters by
+# The tool beside the Rust: `a72 run` against the oracle's `run --right` on every recorded trace and on generated ones; then the samples of the documents, the counters by
 # level, the census, bad files and arguments.
 # Wants target/bin/a72 (tools/build a72) and oracle/target/release (cargo build --offline --release in oracle/). Usage: tests/tool.sh [SEEDS]
 set -u
