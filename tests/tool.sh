@@ -1,5 +1,5 @@
 #!/bin/sh
-# The tool beside the Rust: `a72 run` against the oracle's `run` on every recorded trace and on generated ones; then the samples of the documents, the counters by
+# The tool beside the Rust: `a72 run` against the oracle's `run --right` on every recorded trace and on generated ones; then the samples of the documents, the counters by
 # level, the census, bad files and arguments.
 # Wants target/bin/a72 (tools/build a72) and oracle/target/release (cargo build --offline --release in oracle/). Usage: tests/tool.sh [SEEDS]
 set -u
@@ -20,10 +20,10 @@ bad=0
 pass() { good=$((good + 1)); }
 fail() { bad=$((bad + 1)); echo "differs: $1"; }
 
-# same TRACE NAME: the two outputs are one; a flat address from 2^44 on is the second model's.
+# same TRACE NAME: the two outputs are one.
 same() {
     "$tool" run "$1" >"$work/ours" 2>"$work/err"
-    "$rust/run" "$1" --right >"$work/rust" 2>/dev/null
+    "$rust/run" --right "$1" >"$work/rust" 2>/dev/null
     if [ -s "$work/rust" ] && cmp -s "$work/ours" "$work/rust" && [ ! -s "$work/err" ]; then pass; else fail "$2"; fi
 }
 

@@ -3,8 +3,8 @@
 
 A case is the lines of vec2trace.py, without those that would change nothing, between `case` and `end`; what is due
 after '#=' becomes `answer` and `due` lines, and a marked line's outside answer `other` lines. A line whose class the library
-follows is held to its outside answer. --check writes nothing; the status
-is 1 where a file is not what would be written.
+follows is held to its outside answer, and another marked line with stage 1 off and a large address to an address size fault of
+level 0. --check writes nothing; the status is 1 where a file is not what would be written.
 """
 import struct
 import sys

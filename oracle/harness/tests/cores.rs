@@ -1,5 +1,6 @@
 //! The Rust beside the model and beside the C boundary; mistakes, faithfulness and the walk's parameters in small.
 use harness::compare::compare;
+use harness::domain::Reference;
 use harness::faithful;
 use harness::ffi::{boxed, state_of, CCore};
 use harness::generate::{trace, Rng, Style};
@@ -92,7 +93,9 @@ fn a_mistake_is_found_and_shrunk() {
 #[test]
 fn the_rust_is_faithful_and_not_without_flush_or_retag() {
     let hold = |rule| {
-        let mut core = RustCore::with_rule(rule);
+        let mut core = Reference {
+            rust: RustCore::with_rule(rule),
+        };
         faithful::hold(&trace(1, 3000, Style::Strict), &mut core, &mut Default::default())
     };
     assert_eq!(hold(Rule::Document), Ok(()));

@@ -1,5 +1,6 @@
 //! The counters for each level: what the sums alone would not show, wraps, and the words that hold nothing.
 use harness::compare::compare;
+use harness::domain;
 use harness::ffi::{boxed, CCore, LEVEL_WORDS, RETIRED};
 use harness::generate::{trace, Style};
 use harness::model::{DocCore, Mistake};
@@ -26,7 +27,7 @@ fn levels_show_what_sums_do_not() {
         let mut apart = false;
         for line in trace(1, 3000, Style::Strict) {
             let answers = (
-                feed(&line, &mut rust, &mut rams[0]),
+                domain::feed(&line, &mut rust, &mut rams[0]).0,
                 feed(&line, &mut wrong, &mut rams[1]),
             );
             let (mut s, t) = (rust.state(), wrong.state());
@@ -100,7 +101,7 @@ fn retired_words_do_not_matter() {
         let (mut rust, mut rams) = (RustCore::new(), [Ram::default(), Ram::sealable()]);
         for line in &lines {
             let answers = (
-                feed(line, &mut rust, &mut rams[0]),
+                domain::feed(line, &mut rust, &mut rams[0]).0,
                 feed(line, &mut core, &mut rams[1]),
             );
             assert!(

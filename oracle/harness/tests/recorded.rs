@@ -1,4 +1,5 @@
 //! The recorded traces: their expectations on each core, and that the files are what the program makes.
+use harness::domain::Reference;
 use harness::expect::hold;
 use harness::ffi::CCore;
 use harness::model::DocCore;
@@ -18,7 +19,7 @@ fn records() -> PathBuf {
 
 fn cores() -> [Box<dyn Core>; 3] {
     [
-        Box::new(RustCore::new()),
+        Box::new(Reference::default()),
         Box::new(DocCore::new()),
         Box::new(CCore::new()),
     ]
@@ -38,10 +39,11 @@ fn held(name: &str, expectations: usize) {
 #[test]
 fn expectations_hold() {
     held("cases.trace", 14);
-    held("rules.trace", 108);
+    held("rules.trace", 109);
     held("leaves.trace", 81);
     held("pokes.trace", 30);
-    held("census.trace", 119);
+    held("census.trace", 121);
+    held("flat.trace", 67);
     held("levels.trace", 94);
 }
 

@@ -17,13 +17,15 @@ fn core(args: &Args) -> Box<dyn Core> {
         return args.other_core();
     }
     let rule = match args.value("--rule") {
-        None => return Box::new(Reference::default()),
+        None => Rule::Document,
         Some("pimu") => Rule::Pimu,
         Some("noflush") => Rule::NoFlush,
         Some("noretag") => Rule::NoRetag,
         Some(other) => args.fail(&format!("no such rule: {other}")),
     };
-    Box::new(RustCore::with_rule(rule))
+    Box::new(Reference {
+        rust: RustCore::with_rule(rule),
+    })
 }
 
 fn main() {
