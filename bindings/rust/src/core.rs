@@ -86,7 +86,8 @@ impl Core {
         self.words()
     }
 
-    /// The physical address of `va` for an access of this kind at the present level.
+    /// The physical address of `va` for an access of this kind at the present level. With stage 1 off: `va` without its tag
+    /// where TBI drops that, and from 2^44 on a fault of status 0x00.
     #[inline]
     pub fn translate(&mut self, ram: &Ram, va: u64, access: Access) -> Result<u64, Stop> {
         match raw::translate(&mut self.held, va, access as u64, ram.base, ram.bytes) {
