@@ -1,24 +1,22 @@
 //! The translations of a call: the core's own answers, and beside each the answer of the core without a cache.
 ghost use Rattle.std.specs.Prelude.{◌≡◌, false};
-ghost use Rattle.word.specs.Ram.{bytes_in, width_of, word_at};
+ghost use Rattle.word.specs.Ram.{bytes_in, width_of};
 ghost use Rattle.tlb.specs.Asks.{answer_of, tlb_ask};
 ghost use Rattle.tlb.specs.Lists.{Each};
-ghost use Rattle.cpu.specs.Asks.{access_at};
 ghost use Rattle.cpu.specs.Bare.{bare_of};
-ghost use Rattle.cpu.specs.Core.{bank_now};
+ghost use Rattle.cpu.specs.OpLaws.{access_now};
 ghost use Rattle.history.specs.Window.{window_of};
 ghost use Rattle.transparency.specs.Claim.{access_in, answers_of, asked, sized_in, uncached};
 ghost use Rattle.audit.specs.Answers.{ask_of, asks_in, fresh_answer, given_in, listed};
 
-use crate::translate;
 use cpu::call::Call;
 use cpu::{Core, check, place};
 use fault::Fault;
 use sysreg::regs::Regime;
-use tlb::access::{self, Kind, Request};
+use tlb::access::{self, Kind};
+use tlb::count;
 use tlb::count::Tally;
 use tlb::entry::Entry;
-use tlb::{Tlb, count};
 use walk_report::answer::Source;
 use word::ram::Width;
 
@@ -134,52 +132,36 @@ fn fresh(core: &Core, base: u64, ram: &[u8], kind: Kind, va: u64) -> Result<u64,
     Entry::new(leaf, 0, 0).judge(user, kind, va)
 }
 
-// An access as the core makes it.
-fn request(core: &Core, va: u64, kind: Kind) -> Request
-    ensures { result ≡ record { bank = bank_now core.now; privilege = core.now.privilege; va = va; kind = kind } }
-{
-    Request {
-        bank: core.bank(),
-        privilege: core.privilege,
-        va,
-        kind,
-    }
-}
-
 // The counters of the core's own level.
-fn tally(core: &Core, tlb: &Tlb) -> Tally {
-    tlb.levels[count::level_place(core.privilege.level)]
+fn tally(core: &Core) -> Tally {
+    core.tlb.levels[count::level_place(core.privilege.level)]
 }
 
-// Where an answer came from, by the counters before it.
-fn source(core: &Core, before: Tally, tlb: &Tlb) -> Source {
-    let regime = Regime::of_level(core.privilege.level);
-    Source::new(core.bank().stage1_on(regime), before, tally(core, tlb))
-}
-
-/// One translation by a cache, which moves on, and by the core without one.
-pub fn answer(core: &Core, tlb: &mut Tlb, base: u64, ram: &[u8], ask: Ask) -> Answered
+/// One translation by the core, whose cache moves on, and by the core without one.
+#[tactic(auto, unfolding(cpu::specs::Memory::translate_of, cpu::specs::Memory::stepped_now, cpu::specs::Memory::translate_fetch_of, cpu::specs::Memory::fetch_stepped_now, cpu::specs::Translations::translate_in, cpu::specs::Translations::translate_fetch_in, cpu::specs::Core::after_access))]
+pub fn answer(core: &mut Core, base: u64, ram: &[u8], ask: Ask) -> Answered
     ensures ask { result.ask ≡ ask }
-    ensures core { result.core
-        ≡ answer_of (access_at (bank_now core.now) core.now.privilege (word_at base ram.now 8)) (ask_of ask) tlb.old }
-    ensures tlb { tlb.new
-        ≡ tlb_ask (access_at (bank_now core.now) core.now.privilege (word_at base ram.now 8)) (ask_of ask) tlb.old }
-    ensures fresh { result.fresh ≡ fresh_answer core.now (window_of base ram.now) ask }
+    ensures core { result.core ≡ answer_of (access_now core.old base ram.now) (ask_of ask) core.old.tlb }
+    ensures after { core.new ≡ record core.old { tlb = tlb_ask (access_now core.old base ram.now) (ask_of ask) core.old.tlb } }
+    ensures fresh { result.fresh ≡ fresh_answer core.old (window_of base ram.now) ask }
 {
-    let before = tally(core, tlb);
-    match ask {
-        Ask::Translates(kind, va) => Answered {
-            ask,
-            core: translate::translate(tlb, request(core, va, kind), base, ram),
-            fresh: fresh(core, base, ram, kind, va),
-            source: source(core, before, tlb),
-        },
-        Ask::Fetches(va) => Answered {
-            ask,
-            core: translate::translate_fetch(tlb, request(core, va, Kind::Fetch), base, ram),
-            fresh: fresh(core, base, ram, Kind::Fetch, va),
-            source: source(core, before, tlb),
-        },
+    let before = tally(core);
+    let (answer, fresh) = match ask {
+        Ask::Translates(kind, va) => {
+            let fresh = fresh(core, base, ram, kind, va);
+            (core.translate(base, ram, va, kind), fresh)
+        }
+        Ask::Fetches(va) => {
+            let fresh = fresh(core, base, ram, Kind::Fetch, va);
+            (core.translate_fetch(base, ram, va), fresh)
+        }
+    };
+    let on = core.bank().stage1_on(core.regime());
+    Answered {
+        ask,
+        core: answer,
+        fresh,
+        source: Source::new(on, before, tally(core)),
     }
 }
 
@@ -189,16 +171,16 @@ pub fn answers_to(core: &Core, base: u64, ram: &[u8], call: Call) -> Answers
     ensures core { given_in result ≡ answers_of core.now (record { ram = window_of base ram.now; call = call }) }
     ensures fresh { Each (λ a. a.fresh ≡ fresh_answer core.now (window_of base ram.now) a.ask) (listed result) }
 {
-    let mut tlb = core.tlb;
+    let mut beside = *core;
     match asks(core, base, ram, call) {
         Asked::Nothing => Answers::Nothing,
-        Asked::One(ask) => Answers::One(answer(core, &mut tlb, base, ram, ask)),
+        Asked::One(ask) => Answers::One(answer(&mut beside, base, ram, ask)),
         Asked::Two(ask, next) => {
-            let first = answer(core, &mut tlb, base, ram, ask);
+            let first = answer(&mut beside, base, ram, ask);
             if first.core.is_err() {
                 return Answers::One(first);
             }
-            Answers::Two(first, answer(core, &mut tlb, base, ram, next))
+            Answers::Two(first, answer(&mut beside, base, ram, next))
         }
     }
 }

@@ -3,4 +3,3 @@
 //! and what the call invalidates.
 pub mod answers;
 pub mod dropped;
-mod translate;

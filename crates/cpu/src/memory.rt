@@ -100,9 +100,9 @@ impl Core {
         }
     }
 
-    // The translation that a fetch begins with: by the fetch hint, and else one that leaves it.
+    /// The translation that a fetch begins with: by the fetch hint, and else one that leaves it.
     #[tactic(auto, unfolding(crate::specs::Memory::translate_fetch_of, crate::specs::Memory::fetch_stepped_now, crate::specs::Memory::past_hint_of, crate::specs::Translations::past_hint_step, crate::specs::Translations::translate_fetch_in, crate::specs::Core::after_access))]
-    fn translate_fetch(&mut self, base: u64, ram: &[u8], va: u64) -> Result<u64, Fault>
+    pub fn translate_fetch(&mut self, base: u64, ram: &[u8], va: u64) -> Result<u64, Fault>
         ensures { record { core = self.new; answer = result }
             ≡ translate_fetch_of self.old (word_at base ram.now 8) va }
     {
