@@ -14,7 +14,7 @@ use Rattle.tlb.proofs.Translations.{translation-follows}
 use Rattle.tlb.specs.Translate.{access_of}
 use Rattle.tlb.specs.declared.{access.Kind.Kind, Tlb.Tlb}
 use Rattle.tlb.specs.Answers.{Answer}
-use Rattle.cpu.specs.Answers.{Placed, fault_at}
+use Rattle.cpu.specs.Answers.{Placed, fault_at, second_fault_at}
 use Rattle.cpu.specs.Core.{after_access, bank_now}
 use Rattle.cpu.specs.Place.{in_page, next_page, crosses, goes_on, address_in}
 use Rattle.cpu.proofs.PlaceLaws.{same-page, same-offset, next-first}
@@ -150,7 +150,7 @@ module _ (c : Core) (base : ℕ) (ram : List ℕ) (va n : ℕ) (kind : Kind) (re
             let z : ◌≡◌ {A = Placed} (Ok (Whole pa)) (Ok place) = rw (e, q) at p in
             subst (Own c memory va kind i) (placed-is _ _ z) (whole-own pa e q)
         go (Ok pa) e true q (Err fault) d p =
-            let z : Err (fault_at (next_page va) fault) ≡ Ok place = rw (e, q, d) at p in
+            let z : Err (second_fault_at (next_page va) pa fault) ≡ Ok place = rw (e, q, d) at p in
             let w : ◌≡◌ {A = ℕ} 0 1 = cc in
             absurd (omega arith)
         go (Ok pa) e true q (Ok pa2) d p =
