@@ -3,12 +3,18 @@
 -- let a fault of the second page come first.
 use Rattle.std.specs.Prelude.{if◌then◌else◌, ◌≡◌, ℕ, ◌+◌, ◌-◌, ◌^◌, ◌<◌, ◌≢◌, true, false, List, length, nat_lt, Option, Some, None, Ok, Err, unwrap_or}
 use Rattle.word.specs.Bits.{wrap}
-use Rattle.word.specs.Ram.{within}
+use Rattle.word.specs.Ram.{within, word_at}
 use Rattle.fault.specs.declared.Fault.{Fault}
 use Rattle.tlb.specs.Answers.{Answer}
 use Rattle.cpu.specs.Answers.{Placed}
-use Rattle.cpu.specs.Place.{in_page, placed_one, placed_both}
+use Rattle.cpu.specs.Place.{in_page, crosses, placed_one, placed_both}
 use Rattle.cpu.specs.Ends.{LoadEnd, StoreEnd, external, data_abort, load_end, store_end, store_ram_end}
+use Rattle.tlb.specs.declared.access.Kind.{Kind}
+use Rattle.tlb.specs.declared.access.Kind.TheVariants.{Read, Write}
+use Rattle.cpu.specs.Memory.{read_of, write_of}
+use Rattle.cpu.specs.OpLaws.{on_now}
+use Rattle.cpu.specs.OwnAddress.{own_answer, Ready}
+use Rattle.cpu.specs.declared.Core.{Core}
 
 -- what byte k of a page meets, by the page's translation: its fault, or an external abort
 abbrev pub fails_at : ℕ → ℕ → Answer → ℕ → Option Fault
@@ -121,3 +127,48 @@ TheseChange =
     ≢ (load_end_before (placed_both va (Ok pa) (Err f)) last abort base ram va n).answer)
     × ((store_end (placed_both va (Ok pa) (Err f)) abort base ram va n).answer
     ≢ (store_end_before (placed_both va (Ok pa) (Err f)) abort base ram va n).answer)
+
+-- OF A CORE, by each byte's own address: byte i of an access to va stands at the virtual address wrap (va + i). With this `in_page`, `placed_both` and
+-- `first_part` need not be believed.
+
+-- what a byte meets by its own translation, and where it lies; an address is 64 bits
+abbrev pub met_by : ℕ → ℕ → Answer → Option Fault
+met_by base len (Ok pa) = if within base len 1 (wrap pa) then None else Some external
+met_by base len (Err f) = Some f
+
+abbrev pub found_by : Answer → Option ℕ
+found_by (Ok pa) = Some (wrap pa)
+found_by (Err f) = None
+
+abbrev pub own_fails : Core → ℕ → List ℕ → ℕ → Kind → ℕ → Option Fault
+own_fails c base ram va kind i = met_by base (length ram) (own_answer c (word_at base ram 8) va kind i)
+
+abbrev pub own_lies : Core → ℕ → List ℕ → ℕ → Kind → ℕ → Option ℕ
+own_lies c base ram va kind i = found_by (own_answer c (word_at base ram 8) va kind i)
+
+-- byte i is the lowest of n that fails, by f
+pub record LowestOwn (c : Core) (base : ℕ) (ram : List ℕ) (va : ℕ) (kind : Kind) (n i : ℕ) (f : Fault) : Type 0 where
+  pub below : i < n
+  pub here : own_fails c base ram va kind i ≡ Some f
+  pub before : (j : ℕ) → j < i → own_fails c base ram va kind j ≡ None
+
+abbrev pub LoadDecided : Type 0
+LoadDecided =
+    (c : Core) (base : ℕ) (ram : List ℕ) (va n i : ℕ) (f : Fault) → Ready c base ram va n Read → crosses (on_now c) va n ≡ true
+    → LowestOwn c base ram va Read n i f
+    → ((read_of c base ram va n).answer ≡ Err (data_abort (wrap (va + i)) false f))
+    × ((read_of c base ram va n).core.abort_pa ≡ unwrap_or (own_lies c base ram va Read i) c.abort_pa)
+
+abbrev pub StoreDecided : Type 0
+StoreDecided =
+    (c : Core) (base : ℕ) (ram : List ℕ) (va n i : ℕ) (f : Fault) → Ready c base ram va n Write → crosses (on_now c) va n ≡ true
+    → LowestOwn c base ram va Write n i f
+    → ((write_of c base ram va n).answer ≡ Err (data_abort (wrap (va + i)) true f))
+    × ((write_of c base ram va n).core.abort_pa ≡ unwrap_or (own_lies c base ram va Write i) c.abort_pa)
+
+-- where no byte fails, it does not abort
+abbrev pub NoneDecides : Type 0
+NoneDecides =
+    (c : Core) (base : ℕ) (ram : List ℕ) (va n : ℕ) → crosses (on_now c) va n ≡ true
+    → (Ready c base ram va n Read → ((i : ℕ) → i < n → own_fails c base ram va Read i ≡ None) → (v : ℕ) × ((read_of c base ram va n).answer ≡ Ok v))
+    × (Ready c base ram va n Write → ((i : ℕ) → i < n → own_fails c base ram va Write i ≡ None) → (write_of c base ram va n).answer ≡ Ok tt)

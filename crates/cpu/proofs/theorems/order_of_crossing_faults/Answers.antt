@@ -1,4 +1,5 @@
 use Rattle.cpu.proofs.Crossing.{load-fails, store-fails, none-aborts, aborts-at, last-stays, half-moves-nothing, one-page-stays, crossings-stay, these-change}
+use Rattle.cpu.proofs.OwnCrossing.{load-decided, store-decided, none-decides}
 use Rattle.cpu.proofs.theorems.order_of_crossing_faults.Goals as goal
 
 pub returns-clause-load : goal.returns-clause-load
@@ -27,3 +28,12 @@ returns-clause-others_stay c = crossings-stay
 
 pub returns-clause-these_change : goal.returns-clause-these_change
 returns-clause-these_change c = these-change
+
+pub returns-clause-own_load : goal.returns-clause-own_load
+returns-clause-own_load c = load-decided
+
+pub returns-clause-own_store : goal.returns-clause-own_store
+returns-clause-own_store c = store-decided
+
+pub returns-clause-own_none : goal.returns-clause-own_none
+returns-clause-own_none c = none-decides
