@@ -40,7 +40,7 @@ external_abort va i write = data_abort (wrap (va + i)) write external
 
 -- FAULTS OF TRANSLATIONS
 
--- the lowest failing byte decides: a byte of the first page outside RAM, and else the translation's fault
+-- R19: the lowest failing byte decides, a byte of the first page outside RAM, and else the translation's fault
 abbrev pub failed_access : Verdict → FaultAt → ℕ → Bool → Stop
 failed_access (Ok x) failed va write = data_abort failed.addr write failed.fault
 failed_access (Err out) failed va write = external_abort va out.index write

@@ -193,8 +193,8 @@ impl Core {
         }
     }
 
-    // A translation of the access to va faulted. The lowest failing byte decides: one of the first page that lies outside
-    // RAM comes before a fault of the second.
+    // A translation of the access to va faulted. The lowest failing byte decides: one of the first page that lies
+    // outside RAM comes before a fault of the second.
     fn failed(&mut self, base: u64, ram: &[u8], va: u64, at: FaultAt, write: bool) -> Stop
         ensures answer { result ≡ failed_access (first_part base (length ram.now) va at.first) at va write }
         ensures core { self.new ≡ record self.old
