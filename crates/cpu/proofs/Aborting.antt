@@ -6,7 +6,7 @@ use Rattle.word.specs.Ram.{word_at}
 use Rattle.tlb.specs.declared.access.Kind.{Kind}
 use Rattle.tlb.specs.declared.access.Kind.TheVariants.{Read, Write}
 use Rattle.tlb.specs.Answers.{Answer}
-use Rattle.cpu.specs.Answers.{Placed, Verdict, fault_at, outside_at}
+use Rattle.cpu.specs.Answers.{Placed, Verdict, fault_at, second_fault_at, outside_at}
 use Rattle.cpu.specs.Place.{next_page, in_page, crosses, goes_on, first_pa, verdict_of}
 use Rattle.cpu.specs.Bytes.{value_at, load_of, insn_of, got_by}
 use Rattle.cpu.proofs.Endings.{own}
@@ -49,7 +49,7 @@ module _ (c : Core) (base : ℕ) (ram : List ℕ) (va n : ℕ) where
           let z : ◌≡◌ {A = Placed} (Ok (Whole pa)) (Ok place) = rw (e, q) at p in
           e ∙ ap (λ (x : Place). Ok (first_pa x)) (found _ z)
       go (Ok pa) e true q (Err fault) d p =
-          let z : Err (fault_at (next_page va) fault) ≡ Ok place = rw (e, q, d) at p in
+          let z : Err (second_fault_at (next_page va) pa fault) ≡ Ok place = rw (e, q, d) at p in
           let w : ◌≡◌ {A = ℕ} 0 1 = cc in
           absurd (omega arith)
       go (Ok pa) e true q (Ok pa2) d p =

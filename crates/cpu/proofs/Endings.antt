@@ -1,17 +1,17 @@
 -- What an abort says of the access, and which addresses the core keeps, of every place.
 use Rattle.std.specs.Prelude.{if◌then◌else◌, Some, None, Ok, Err}
-use Rattle.std.proofs.Common.{◌≡◌, ℕ, ◌+◌, ◌-◌, ◌%◌, ◌^◌, Bool, true, false, length, sym, refl, ap, mod-eq_of_lt, lt-ltb, arith}
+use Rattle.std.proofs.Common.{◌≡◌, ℕ, ◌+◌, ◌-◌, ◌%◌, ◌^◌, Bool, true, false, length, sym, refl, ap, ◌∙◌, mod-eq_of_lt, lt-ltb, arith}
 use Rattle.word.specs.Bits.{wrap}
 use Rattle.word.specs.Ram.{within, little_endian}
 use Rattle.exception.specs.declared.{kind.Stop.Stop, kind.Exception.Exception}
 use Rattle.cpu.specs.Answers.{Verdict, LoadAnswer, StoreAnswer, FetchAnswer, outside_at}
-use Rattle.cpu.specs.Place.{byte_at, verdict_of, address_in}
+use Rattle.cpu.specs.Place.{byte_at, first_part, verdict_of, address_in}
 use Rattle.cpu.proofs.PlaceLaws.{same-outside, lowest}
 use Rattle.cpu.specs.Bytes.{value_at, load_of, insn_of, got_by}
-use Rattle.cpu.specs.Ends.{loaded_from, store_end_by, fetched_from, load_end, store_end, fetch_end}
+use Rattle.cpu.specs.Ends.{failed_access, abort_after, loaded_from, store_end_by, fetched_from, load_end, store_end, fetch_end}
 use Rattle.cpu.specs.EndMeaning.{stop_writes, stop_address, exception_writes, exception_address, LoadsRead, StoresWrite, FetchesReport}
 use Rattle.cpu.specs.EndMeaning.{LoadAborts, StoreAborts, FetchAborts, LoadsKeepFirst, FaultsLeave, DoneLeaves}
-use Rattle.cpu.specs.declared.{place.Place.Place}
+use Rattle.cpu.specs.declared.{place.Place.Place, place.FaultAt.FaultAt}
 use Rattle.cpu.specs.declared.place.Place.TheVariants.{Whole, Split}
 
 same_load : (s t : Stop) → ◌≡◌ {A = LoadAnswer} (Err s) (Err t) → s ≡ t
@@ -25,9 +25,14 @@ same_fetch s t e = cc
 
 -- WHICH WAY
 
+failed-writes : (d : Verdict) (failed : FaultAt) (va : ℕ) (write : Bool) → stop_writes (failed_access d failed va write) ≡ Some write
+failed-writes (Ok x) failed va write = refl
+failed-writes (Err out) failed va write = refl
+
 pub loads-read : LoadsRead
 unfolding load_end load_of
-loads-read (Err failed) last abort base ram va n s e = ap stop_writes (sym (same_load _ _ e))
+loads-read (Err failed) last abort base ram va n s e =
+    ap stop_writes (sym (same_load _ _ e)) ∙ failed-writes (first_part base (length ram) va failed.first) failed va false
 loads-read (Ok place) last abort base ram va n s e = go (verdict_of base (length ram) place n) e
   where
     go : (d : Verdict) → (loaded_from place (got_by d (value_at base ram place n)) abort va).answer ≡ Err s → stop_writes s ≡ Some false
@@ -36,7 +41,8 @@ loads-read (Ok place) last abort base ram va n s e = go (verdict_of base (length
 
 pub stores-write : StoresWrite
 unfolding store_end
-stores-write (Err failed) abort base ram va n s e = ap stop_writes (sym (same_store _ _ e))
+stores-write (Err failed) abort base ram va n s e =
+    ap stop_writes (sym (same_store _ _ e)) ∙ failed-writes (first_part base (length ram) va failed.first) failed va true
 stores-write (Ok place) abort base ram va n s e = go (verdict_of base (length ram) place n) e
   where
     go : (d : Verdict) → (store_end_by d abort va).answer ≡ Err s → stop_writes s ≡ Some true
@@ -108,7 +114,7 @@ loads-keep-first (Split p) last abort base ram va n h = go (verdict_of base (len
 
 pub faults-leave : FaultsLeave
 unfolding load_end store_end fetch_end
-faults-leave f g last abort base ram va n = (refl, refl, refl, refl)
+faults-leave f g last abort base ram va n = (refl, λ e. ap (λ d. abort_after d abort) e, λ e. ap (λ d. abort_after d abort) e, refl)
 
 pub done-leaves : DoneLeaves
 unfolding load_end load_of store_end

@@ -17,9 +17,8 @@ use Rattle.cpu.specs.Answers.{Placed, Verdict, LoadAnswer, StoreAnswer, FetchAns
 use Rattle.tlb.specs.declared.access.Kind.TheVariants as Kind
 use Rattle.system.specs.declared.decode.SysOp.{SysOp}
 use Rattle.cpu.specs.Core.{reg_of}
-use Rattle.cpu.specs.Place.{verdict_of as judged}
 use Rattle.cpu.specs.Bytes.{value_at}
-use Rattle.cpu.specs.Says.{Said, value, done, fault, load_says, store_says, fetch_says, memory_says, access_says}
+use Rattle.cpu.specs.Says.{Said, value, done, fault, load_says, store_says, fetch_says, memory_says, access_says, verdict_in}
 use Rattle.cpu.specs.Says.{insn_says}
 use Rattle.cpu.proofs.Says.{load-says, store-says, fetch-says}
 use Rattle.cpu.specs.Memory.{translate_of, read_of, write_of, ram_after_write, fetch_of, fetch_pa_of, data_pa_of, located_now, fetch_stepped_now}
@@ -109,13 +108,13 @@ store_wrote c base ram va n v =
     same : length (ram_after_write c base ram va n v) ≡ length ram
     same = ram-length c base ram (store va n v)
 
-    memory : (d : Verdict) → Wrote ram (ram_after_write c base ram va n v) (memory_says d va done)
-    memory (Ok x) = did _ same
-    memory (Err out) = faulted _ _ _ same
+    memory : (d : Verdict) (s : Said) → Wrote ram (ram_after_write c base ram va n v) s → Wrote ram (ram_after_write c base ram va n v) (memory_says d va s)
+    memory (Ok x) s h = h
+    memory (Err out) s h = faulted _ _ _ same
 
-    go : (x : Placed) → Wrote ram (ram_after_write c base ram va n v) (access_says x (λ p. judged base (length ram) p n) va (λ p. done))
-    go (Err failed) = faulted _ failed.addr failed.fault.fsc same
-    go (Ok p) = memory (judged base (length ram) p n)
+    go : (x : Placed) → Wrote ram (ram_after_write c base ram va n v) (access_says x (verdict_in base ram va n) va (λ p. done))
+    go (Err failed) = memory (verdict_in base ram va n (Err failed)) _ (faulted _ failed.addr failed.fault.fsc same)
+    go (Ok p) = memory (verdict_in base ram va n (Ok p)) _ (did _ same)
 
 wrote-later : (ram mid after : List ℕ) (s : Said) → length mid ≡ length ram → Wrote mid after s → Wrote ram after s
 wrote-later ram mid _ _ e (did after h) = did after (h ∙ e)
@@ -177,14 +176,15 @@ module _ (c : Core) (base : ℕ) (ram : List ℕ) where
       subst⁻¹ (Ran c ram (read_of c base ram va n).core ram) (loading-says (read_of c base ram va n).answer ∙ ap says (load-says c base ram va n))
       (go (located_now c (word_at base ram 8) va n Kind.Read).placed)
     where
-      memory : (d : Verdict) (v : ℕ) → Ran c ram (read_of c base ram va n).core ram (says (memory_says d va (value v)))
-      memory (Ok x) v = valued _ v
-      memory (Err out) v = stopped _ _ _
+      memory : (d : Verdict) (s : Said) → Ran c ram (read_of c base ram va n).core ram (says s)
+          → Ran c ram (read_of c base ram va n).core ram (says (memory_says d va s))
+      memory (Ok x) s h = h
+      memory (Err out) s h = stopped _ _ _
 
       go : (x : Placed)
-          → Ran c ram (read_of c base ram va n).core ram (says (access_says x (λ p. judged base (length ram) p n) va (λ p. value (value_at base ram p n))))
-      go (Err failed) = stopped _ failed.addr failed.fault.fsc
-      go (Ok p) = memory (judged base (length ram) p n) _
+          → Ran c ram (read_of c base ram va n).core ram (says (access_says x (verdict_in base ram va n) va (λ p. value (value_at base ram p n))))
+      go (Err failed) = memory (verdict_in base ram va n (Err failed)) _ (stopped _ failed.addr failed.fault.fsc)
+      go (Ok p) = memory (verdict_in base ram va n (Ok p)) _ (valued _ _)
 
   stored : (d : Core) (a : StoreAnswer) (after : List ℕ) → Wrote ram after (store_says a) → Ran c ram d after (outcome_of (storing a))
   stored d a after w = subst⁻¹ (Ran c ram d after) (storing-says a) (wrote-ram d after (store_says a) w)

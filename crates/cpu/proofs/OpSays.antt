@@ -19,9 +19,9 @@ says-by c base ram (translate va kind) = refl
 says-by c base ram (access va n kind) = ap placed_says (placed_by c base ram va n kind)
 says-by c base ram (load va n) =
     load-says c base ram va n
-    ∙ ap (λ (x : Placed). access_says x (verdict_in base ram n) va (λ p. value (value_at base ram p n))) (placed_by c base ram va n Read)
+    ∙ ap (λ (x : Placed). access_says x (verdict_in base ram va n) va (λ p. value (value_at base ram p n))) (placed_by c base ram va n Read)
 says-by c base ram (store va n v) =
-    store-says c base ram va n ∙ ap (λ (x : Placed). access_says x (verdict_in base ram n) va (λ p. done)) (placed_by c base ram va n Write)
+    store-says c base ram va n ∙ ap (λ (x : Placed). access_says x (verdict_in base ram va n) va (λ p. done)) (placed_by c base ram va n Write)
 says-by c base ram (fetch va) = fetch-says c base ram va
 says-by c base ram (fetch_pa va) = refl
 says-by c base ram (data_pa va) = refl

@@ -14,7 +14,7 @@ use Rattle.tlb.proofs.Translations.{translation-follows}
 use Rattle.tlb.specs.Translate.{access_of}
 use Rattle.tlb.specs.declared.{access.Kind.Kind, Tlb.Tlb}
 use Rattle.tlb.specs.Answers.{Answer}
-use Rattle.cpu.specs.Answers.{Placed, fault_at}
+use Rattle.cpu.specs.Answers.{Placed, fault_at, second_fault_at}
 use Rattle.cpu.specs.Core.{after_access, bank_now}
 use Rattle.cpu.specs.Place.{in_page, next_page, crosses, goes_on, address_in}
 use Rattle.cpu.proofs.PlaceLaws.{same-page, same-offset, next-first}
@@ -42,29 +42,29 @@ module _ (c : Core) (base : ℕ) (ram : List ℕ) (va n : ℕ) (kind : Kind) (re
   abbrev step_in : ℕ → Tlb → Stepped
   step_in a t = translate_in (bank_now c) c.privilege memory a kind t
 
-  abbrev first : Stepped
+  abbrev pub first : Stepped
   first = step_in va c.tlb
 
-  abbrev second : Stepped
+  abbrev pub second : Stepped
   second = step_in (next_page va) first.tlb
 
-  first-well : WellFormed first.tlb
+  pub first-well : WellFormed first.tlb
   unfolding translate_in
   first-well =
       (translation-follows (access_of (bank_now c) c.privilege va kind memory) c.tlb ready.well
       (λ leaf e. (subst (SoundWalked _) e (walk-sound (bank_now c) (regime_of c.privilege.level) _ memory)).0.level-high) ready.level
       ).well
 
-  own_first : (i : ℕ) → byte_va va i / 4096 ≡ va / 4096 → own_answer c memory va kind i ≡ (step_in (byte_va va i) c.tlb).answer
+  pub own_first : (i : ℕ) → byte_va va i / 4096 ≡ va / 4096 → own_answer c memory va kind i ≡ (step_in (byte_va va i) c.tlb).answer
   unfolding translate_of stepped_now
   own_first i q = rw (eq-eqb _ _ q)
 
-  own-next : (i : ℕ) → (byte_va va i / 4096 ≢ va / 4096) → own_answer c memory va kind i ≡ (step_in (byte_va va i) first.tlb).answer
+  pub own-next : (i : ℕ) → (byte_va va i / 4096 ≢ va / 4096) → own_answer c memory va kind i ≡ (step_in (byte_va va i) first.tlb).answer
   unfolding translate_of stepped_now after_access
   own-next i q = rw (ne_eqb _ _ q)
 
   -- on its own page
-  own-here : (i pa : ℕ) → first.answer ≡ Ok pa → i < in_page va → own_answer c memory va kind i ≡ Ok (pa + i)
+  pub own-here : (i pa : ℕ) → first.answer ≡ Ok pa → i < in_page va → own_answer c memory va kind i ≡ Ok (pa + i)
   own-here i pa e h =
       let w : va < 2 ^ 64 = ready.address in
       let page : byte_va va i / 4096 ≡ va / 4096 = same-page va i w h in
@@ -76,16 +76,16 @@ module _ (c : Core) (base : ℕ) (ram : List ℕ) (va n : ℕ) (kind : Kind) (re
       ∙ ap Ok (omega arith)
 
   -- on the next
-  next-differs : (i : ℕ) → in_page va ≤ i → i < 8 → byte_va va i / 4096 ≢ va / 4096
+  pub next-differs : (i : ℕ) → in_page va ≤ i → i < 8 → byte_va va i / 4096 ≢ va / 4096
   next-differs i h k q = let w : va < 2 ^ 64 = ready.address in omega arith
 
-  next-page : (i : ℕ) → in_page va ≤ i → i < 8 → next_page va / 4096 ≡ byte_va va i / 4096
+  pub next-page : (i : ℕ) → in_page va ≤ i → i < 8 → next_page va / 4096 ≡ byte_va va i / 4096
   next-page i h k = let w : va < 2 ^ 64 = ready.address in omega arith
 
   next-offset : (i : ℕ) → in_page va ≤ i → i < 8 → byte_va va i % 4096 ≡ i - in_page va
   next-offset i h k = let w : va < 2 ^ 64 = ready.address in omega arith
 
-  own-there : (i pa : ℕ) → second.answer ≡ Ok pa → in_page va ≤ i → i < 8 → own_answer c memory va kind i ≡ Ok (pa + (i - in_page va))
+  pub own-there : (i pa : ℕ) → second.answer ≡ Ok pa → in_page va ≤ i → i < 8 → own_answer c memory va kind i ≡ Ok (pa + (i - in_page va))
   own-there i pa e h k =
       let w : va < 2 ^ 64 = ready.address in
       let low = next-offset i h k in
@@ -150,7 +150,7 @@ module _ (c : Core) (base : ℕ) (ram : List ℕ) (va n : ℕ) (kind : Kind) (re
             let z : ◌≡◌ {A = Placed} (Ok (Whole pa)) (Ok place) = rw (e, q) at p in
             subst (Own c memory va kind i) (placed-is _ _ z) (whole-own pa e q)
         go (Ok pa) e true q (Err fault) d p =
-            let z : Err (fault_at (next_page va) fault) ≡ Ok place = rw (e, q, d) at p in
+            let z : Err (second_fault_at (next_page va) pa fault) ≡ Ok place = rw (e, q, d) at p in
             let w : ◌≡◌ {A = ℕ} 0 1 = cc in
             absurd (omega arith)
         go (Ok pa) e true q (Ok pa2) d p =

@@ -2,23 +2,20 @@
 use Rattle.std.specs.Prelude.{if◌then◌else◌, ◌≡◌, ℕ, zero, suc, ◌+◌, ◌-◌, ◌/◌, ◌%◌, ◌^◌, ◌<◌, ◌≤◌, Bool, true, false, nat_lt, Ok, Err}
 use Rattle.std.proofs.Math.Path.{refl}
 use Rattle.std.proofs.Common.{sym, ap, arith, ltb-true, ltb-false}
-use Rattle.fault.specs.declared.Fault.{Fault}
 use Rattle.word.specs.Bits.{wrap}
 use Rattle.word.specs.Ram.{within}
 use Rattle.cpu.specs.Place.{in_page, next_page, byte_at, first_outside, bytes_before, Lowest}
 use Rattle.cpu.specs.declared.{place.Pages.Pages, place.FaultAt.FaultAt, place.Outside.Outside}
-use Rattle.cpu.specs.Answers.{Placed, Verdict, fault_at, outside_at}
+use Rattle.cpu.specs.Answers.{Placed, Verdict, outside_at}
 
--- two answers that are one name one byte, or one fault at one address
+-- two answers that are one name one byte, or one fault
 pub same-outside : (i pa j q : ℕ) → ◌≡◌ {A = Verdict} (Err (outside_at i pa)) (Err (outside_at j q)) → (i ≡ j) × (pa ≡ q)
 same-outside i pa j q e =
     let o : outside_at i pa ≡ outside_at j q = cc in
     (ap (λ (x : Outside). x.index) o, ap (λ (x : Outside). x.pa) o)
 
-pub same-fault : (a b : ℕ) (x y : Fault) → ◌≡◌ {A = Placed} (Err (fault_at a x)) (Err (fault_at b y)) → (a ≡ b) × (x ≡ y)
-same-fault a b x y e =
-    let f : fault_at a x ≡ fault_at b y = cc in
-    (ap (λ (x : FaultAt). x.addr) f, ap (λ (x : FaultAt). x.fault) f)
+pub same-fault : (x y : FaultAt) → ◌≡◌ {A = Placed} (Err x) (Err y) → x ≡ y
+same-fault x y e = cc
 
 module _ (base len : ℕ) (p : Pages) where
   abbrev here : Bool → ℕ → ℕ → Verdict

@@ -5,6 +5,8 @@ use Rattle.std.proofs.Math.Path.{refl, ap, subst}
 use Rattle.std.proofs.Common.{sym, ◌∙◌}
 use native.Mathlib.Omega.{arith}
 use borrow.Author.Tests.{ltb-true, ltb-false, le-leb}
+use Rattle.std.proofs.Common.{le-ltb}
+use Rattle.cpu.specs.Place.{in_page}
 use Rattle.word.specs.Bits.{align_down}
 use Rattle.word.specs.Ram.{within, word_at, stored}
 use Rattle.walk.specs.Regime.{bank_of}
@@ -27,7 +29,7 @@ use Rattle.cpu.specs.declared.Core.{Core}
 use Rattle.cpu.specs.System.{on_stored, zero_of, zero_ram, sys_of, sys_ram}
 use Rattle.word.proofs.RamLaws.{within_low, within-high}
 use Rattle.cpu.proofs.ZeroLaws.{one-ram, none-ram, one-done, one-tlb, zeros-there, zeros-stay, store_va, store-va, zero-last, zero-ram-last, zero-done}
-use Rattle.cpu.specs.ZeroMeaning.{LineZeroed, Zeroed, ZvaZeroes}
+use Rattle.cpu.specs.ZeroMeaning.{LineZeroed, NeverCrosses, Zeroed, ZvaZeroes}
 
 -- the translation that store j makes: of its own address, in the core and the RAM that the stores before it leave
 abbrev pub store_answer : Core → ℕ → List ℕ → ℕ → ℕ → Answer
@@ -287,3 +289,7 @@ zero-line c base ram x well small e =
 pub zva-zeroes : ZvaZeroes
 unfolding sys_of sys_ram
 zva-zeroes c base ram op1 crn crm op2 rt well small q e = rw q (zero-line c base ram (reg_of c rt) well small (rw q at e))
+
+pub never-crosses : NeverCrosses
+never-crosses false x j h = refl
+never-crosses true x j h = le-ltb (in_page (align_down x 6 + 8 * j)) 8 (omega arith)

@@ -1,11 +1,15 @@
 -- The code's answers: where the bytes of an access lie, whether they lie in RAM, and how an operation ends.
-use Rattle.std.specs.Prelude.{ℕ, Result}
+use Rattle.std.specs.Prelude.{ℕ, Result, Some, None}
 use Rattle.fault.specs.declared.Fault.{Fault}
 use Rattle.exception.specs.declared.{kind.Stop.Stop, kind.Exception.Exception}
 use Rattle.cpu.specs.declared.{place.Place.Place, place.FaultAt.FaultAt, place.Outside.Outside}
 
 abbrev pub fault_at : ℕ → Fault → FaultAt
-fault_at addr f = record { addr = addr; fault = f }
+fault_at addr f = record { addr = addr; fault = f; first = None }
+
+-- of the second of two pages: the first page's bytes lie from pa on
+abbrev pub second_fault_at : ℕ → ℕ → Fault → FaultAt
+second_fault_at addr pa f = record { addr = addr; fault = f; first = Some pa }
 
 abbrev pub outside_at : ℕ → ℕ → Outside
 outside_at i pa = record { index = i; pa = pa }

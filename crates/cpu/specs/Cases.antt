@@ -1,6 +1,6 @@
--- The thirteen worked cases of docs/SCOPE.md and the last address in range, as one computed statement about calls on a core with an empty cache; and those
--- of stage 1 off.
-use Rattle.std.specs.Prelude.{◌≡◌, ℕ, ◌+◌, ◌^◌, true, false, [], ◌∷◌, replicate, slice_index}
+-- The thirteen worked cases of docs/SCOPE.md and the last address in range, as one computed statement about calls on a core with an empty cache; those of
+-- stage 1 off; and those of two pages whose second faults.
+use Rattle.std.specs.Prelude.{◌≡◌, ℕ, ◌+◌, ◌^◌, Bool, true, false, List, [], ◌∷◌, replicate, slice_index}
 use Rattle.std.specs.Prelude.{refl}
 use Rattle.word.specs.Ram.{word_at, little_endian, bytes_of}
 use Rattle.fault.specs.First.{first}
@@ -14,6 +14,7 @@ use Rattle.walk.specs.Walk.{walk_of}
 use Rattle.sysreg.specs.declared.regs.Regime.TheVariants.{El1}
 use Rattle.tlb.specs.Access.{judged}
 use Rattle.tlb.specs.Tlb.{blanks, no_hints, get_of, put_of}
+use Rattle.tlb.specs.Count.{tally_at}
 use Rattle.tlb.specs.Hint.{place_of}
 use Rattle.tlb.specs.Tlb.{fresh}
 use Rattle.tlb.specs.Translate.{walked_in, miss_in}
@@ -38,14 +39,14 @@ use Rattle.system.specs.Par.{success, abort, leaf_par, par_in, at_par}
 use Rattle.cpu.specs.Registers.{abort_of}
 use Rattle.cpu.specs.System.{with_par, at_of, sys_of}
 use Rattle.cpu.specs.Check.{missed_of}
-use Rattle.cpu.specs.Step.{run_of, step_of}
+use Rattle.cpu.specs.Step.{run_of, step_of, ram_after}
 use Rattle.cpu.specs.declared.{call.Call.Call, call.Reply.Reply}
-use Rattle.cpu.specs.declared.call.Call.TheVariants.{Translate, Load, System, Abort}
+use Rattle.cpu.specs.declared.call.Call.TheVariants.{Translate, Load, Store, System, Abort}
 use Rattle.cpu.specs.declared.call.Reply.TheVariants.{Value, Fault, Stopped}
 use Rattle.cpu.specs.Step.{Stepped}
 
 -- a core at a level with SCTLR_EL1.M set, TCR_EL1 = 25 and TTBR0_EL1 as given, other registers zero, the address in X0, and an empty cache
-pub at : ℕ → ℕ → Core
+unfoldable pub at : ℕ → ℕ → Core
 at level ttbr0 =
     record {
       privilege = record { level = level; unprivileged = false };
@@ -211,3 +212,50 @@ unfolding flat flat_load flat_par off at called step_of run_of missed_of transla
     sys_of at_of with_par read_of located_now located_of load_end load_of verdict_of named decode_of success abort par_in fresh_of at_par blanks no_hints
     place_of get_of put_of miss_in untagged word_at little_endian bytes_of
 flat-cases = refl
+
+-- TWO PAGES, the second of which faults: the lowest failing byte decides
+
+-- the reply to a call on a core, with `last_pa`, `abort_pa` and the walks that EL1 counts after it
+pub record Left : Type 0 where
+  pub reply : Reply
+  pub kept : List ℕ
+
+unfoldable pub left : Core → ℕ → List ℕ → Call → Left
+left c base ram call =
+    let s = step_of c base ram call in
+    record { reply = s.reply; kept = s.core.last_pa ∷ s.core.abort_pa ∷ (tally_at s.core.tlb 1).walks ∷ [] }
+
+-- the table at 0x1000: what stands there at 0x1008 and at 0x1010
+abbrev pub low : ℕ → Call → Left
+low words call = left (at 1 0x1000) 0x1008 (bytes_of 16 words) call
+
+-- the table at 0x3FFFF000, whose word at 0x3FFFFFF0 maps the gibibyte from 0x7F80000000 on to that from 0 on; n bytes of RAM from that word on
+abbrev pub high : ℕ → Call → Left
+high n call = left (at 1 0x3FFFF000) 0x3FFFFFF0 (bytes_of n 0x401) call
+
+-- a data abort
+abbrev aborts : ℕ → Bool → ℕ → Reply
+aborts va write status = Stopped (Stop.Exception (data_abort_at va write (first status)))
+
+-- The first byte of the first page outside; the second; the second of a store; none, so that the second page's fault decides. Both pages translate, and
+-- all bytes of both lie outside. The first page faults.
+abbrev pub CrossingCases : Type 0
+CrossingCases =
+    (low 0x80000401 (Load 0x7FFFFFFF 8)
+    ∷ high 15 (Load 0x7FBFFFFFFE 8)
+    ∷ high 15 (Store 0x7FBFFFFFFE 8 0)
+    ∷ high 16 (Load 0x7FBFFFFFFE 8)
+    ∷ low 0xC00004010000000080000401 (Load 0x7FFFFFFF 8)
+    ∷ low 0 (Load 0x7FFFFFFF 8)
+    ∷ [])
+    ≡ (record { reply = aborts 0x7FFFFFFF false 0x10; kept = 0 ∷ 0xBFFFFFFF ∷ 2 ∷ [] }
+    ∷ record { reply = aborts 0x7FBFFFFFFF false 0x10; kept = 0 ∷ 0x3FFFFFFF ∷ 2 ∷ [] }
+    ∷ record { reply = aborts 0x7FBFFFFFFF true 0x10; kept = 0 ∷ 0x3FFFFFFF ∷ 2 ∷ [] }
+    ∷ record { reply = aborts 0x7FC0000000 false 0x05; kept = 0 ∷ 0 ∷ 2 ∷ [] }
+    ∷ record { reply = aborts 0x7FFFFFFF false 0x10; kept = 0xBFFFFFFF ∷ 0xBFFFFFFF ∷ 2 ∷ [] }
+    ∷ record { reply = aborts 0x7FFFFFFF false 0x05; kept = 0 ∷ 0 ∷ 1 ∷ [] }
+    ∷ [])
+
+-- and that store leaves the byte before the failing one
+abbrev pub CrossingRam : Type 0
+CrossingRam = ram_after (at 1 0x3FFFF000) 0x3FFFFFF0 (bytes_of 15 0x401) (Store 0x7FBFFFFFFE 8 0xFFFF) ≡ bytes_of 15 0x401

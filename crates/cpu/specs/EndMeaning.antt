@@ -7,7 +7,7 @@ use Rattle.exception.specs.declared.{kind.Stop.Stop, kind.Exception.Exception}
 use Rattle.exception.specs.declared.kind.Exception.TheVariants.{Undefined, Svc, Hvc, Smc, Brk, DataAbort, InsnAbort, PcAlignment}
 use Rattle.tlb.specs.Answers.{Answer}
 use Rattle.cpu.specs.Answers.{Placed, outside_at}
-use Rattle.cpu.specs.Place.{verdict_of, address_in}
+use Rattle.cpu.specs.Place.{first_part, verdict_of, address_in}
 use Rattle.cpu.specs.Ends.{load_end, store_end, fetch_end}
 use Rattle.cpu.specs.declared.{place.Place.Place, place.FaultAt.FaultAt}
 use Rattle.cpu.specs.declared.place.Place.TheVariants.{Whole, Split}
@@ -86,13 +86,13 @@ LoadsKeepFirst =
     (place : Place) (last abort base : ℕ) (ram : List ℕ) (va n : ℕ) → Begins place
     → (load_end (Ok place) last abort base ram va n).last_pa ≡ wrap (address_in place 0)
 
--- a fault of the translations leaves what the core keeps, and an access that is done leaves `abort_pa`
+-- a fault of the translations leaves what the core keeps, unless a byte of the first page decides; and an access that is done leaves `abort_pa`
 abbrev pub FaultsLeave : Type 0
 FaultsLeave =
     (f : FaultAt) (g : Fault) (last abort base : ℕ) (ram : List ℕ) (va n : ℕ)
     → ((load_end (Err f) last abort base ram va n).last_pa ≡ last)
-    × ((load_end (Err f) last abort base ram va n).abort_pa ≡ abort)
-    × ((store_end (Err f) abort base ram va n).abort_pa ≡ abort)
+    × (first_part base (length ram) va f.first ≡ Ok tt → (load_end (Err f) last abort base ram va n).abort_pa ≡ abort)
+    × (first_part base (length ram) va f.first ≡ Ok tt → (store_end (Err f) abort base ram va n).abort_pa ≡ abort)
     × ((fetch_end (Err g) abort base ram va).abort_pa ≡ abort)
 
 abbrev pub DoneLeaves : Type 0

@@ -9,9 +9,9 @@ use Rattle.tlb.specs.Answers.{Answer}
 use Rattle.cpu.specs.Answers.{Placed, Verdict, Got, LoadAnswer, StoreAnswer, FetchAnswer}
 use Rattle.exception.specs.declared.kind.Stop.{Stop}
 use Rattle.exception.specs.Abort.{data_abort_at, insn_abort_at}
-use Rattle.cpu.specs.Place.{first_pa, verdict_of}
+use Rattle.cpu.specs.Place.{first_pa, first_part, verdict_of}
 use Rattle.cpu.specs.Bytes.{load_of, store_ram, insn_of}
-use Rattle.cpu.specs.declared.place.Place.{Place}
+use Rattle.cpu.specs.declared.{place.Place.Place, place.FaultAt.FaultAt}
 
 -- what an access leaves in the core beside its cache, and its answer
 pub record LoadEnd : Type 0 where
@@ -38,6 +38,18 @@ data_abort addr write f = Stop.Exception (data_abort_at addr write f)
 abbrev pub external_abort : ℕ → ℕ → Bool → Stop
 external_abort va i write = data_abort (wrap (va + i)) write external
 
+-- FAULTS OF TRANSLATIONS
+
+-- R19: the lowest failing byte decides, a byte of the first page outside RAM, and else the translation's fault
+abbrev pub failed_access : Verdict → FaultAt → ℕ → Bool → Stop
+failed_access (Ok x) failed va write = data_abort failed.addr write failed.fault
+failed_access (Err out) failed va write = external_abort va out.index write
+
+-- `abort_pa` after it
+abbrev pub abort_after : Verdict → ℕ → ℕ
+abort_after (Ok x) abort = abort
+abort_after (Err out) abort = out.pa
+
 -- LOADS
 
 -- `last_pa` is set once the translations have succeeded, `abort_pa` by an external abort
@@ -48,7 +60,11 @@ loaded_from place (Err out) abort va =
 
 unfoldable pub load_end : Placed → ℕ → ℕ → ℕ → List ℕ → ℕ → ℕ → LoadEnd
 load_end (Err failed) last abort base ram va n =
-    record { last_pa = last; abort_pa = abort; answer = Err (data_abort failed.addr false failed.fault) }
+    record {
+      last_pa = last;
+      abort_pa = abort_after (first_part base (length ram) va failed.first) abort;
+      answer = Err (failed_access (first_part base (length ram) va failed.first) failed va false);
+    }
 load_end (Ok place) last abort base ram va n = loaded_from place (load_of base ram place n) abort va
 
 -- STORES
@@ -59,7 +75,10 @@ store_end_by (Err out) abort va = record { abort_pa = out.pa; answer = Err (exte
 
 unfoldable pub store_end : Placed → ℕ → ℕ → List ℕ → ℕ → ℕ → StoreEnd
 store_end (Err failed) abort base ram va n =
-    record { abort_pa = abort; answer = Err (data_abort failed.addr true failed.fault) }
+    record {
+      abort_pa = abort_after (first_part base (length ram) va failed.first) abort;
+      answer = Err (failed_access (first_part base (length ram) va failed.first) failed va true);
+    }
 store_end (Ok place) abort base ram va n = store_end_by (verdict_of base (length ram) place n) abort va
 
 -- a store that faults moves no byte

@@ -39,3 +39,5 @@ pub mod Inspect
 pub mod Cases
 pub mod EveryCallEnds
 pub mod Setters
+-- Of two pages the lowest failing byte decides.
+pub mod Crossing

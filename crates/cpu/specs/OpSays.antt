@@ -22,8 +22,8 @@ says c base ram (data_pa va) = reached_says (data_pa_of c (word_at base ram 8) v
 abbrev pub said_by : ℕ → List ℕ → Operation → List Given → Said
 said_by base ram (translate va kind) l = answer_says va (first_of l)
 said_by base ram (access va n kind) l = placed_says (placed_from va l)
-said_by base ram (load va n) l = access_says (placed_from va l) (verdict_in base ram n) va (λ p. value (value_at base ram p n))
-said_by base ram (store va n v) l = access_says (placed_from va l) (verdict_in base ram n) va (λ p. done)
+said_by base ram (load va n) l = access_says (placed_from va l) (verdict_in base ram va n) va (λ p. value (value_at base ram p n))
+said_by base ram (store va n v) l = access_says (placed_from va l) (verdict_in base ram va n) va (λ p. done)
 said_by base ram (fetch va) l = insn_says base ram va (first_of l)
 said_by base ram (fetch_pa va) l = reached_says (reached_by (first_of l))
 said_by base ram (data_pa va) l = reached_says (reached_by (first_of l))

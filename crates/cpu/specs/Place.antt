@@ -1,10 +1,10 @@
 -- Where the bytes of an access lie, and which of them lie outside RAM, by the code's own two parts; `OwnAddress` has it
 -- by each byte's own address.
-use Rattle.std.specs.Prelude.{if◌then◌else◌, ◌≡◌, ℕ, zero, suc, ◌+◌, ◌-◌, ◌%◌, ◌<◌, ◌≤◌, Bool, true, false, ◌&&◌, nat_lt, Ok, Err}
+use Rattle.std.specs.Prelude.{if◌then◌else◌, ◌≡◌, ℕ, zero, suc, ◌+◌, ◌-◌, ◌%◌, ◌<◌, ◌≤◌, Bool, true, false, ◌&&◌, nat_lt, Option, Some, None, Ok, Err}
 use Rattle.word.specs.Bits.{wrap}
 use Rattle.word.specs.Ram.{within}
 use Rattle.tlb.specs.Answers.{Answer}
-use Rattle.cpu.specs.Answers.{Placed, Verdict, fault_at, outside_at}
+use Rattle.cpu.specs.Answers.{Placed, Verdict, fault_at, second_fault_at, outside_at}
 use Rattle.cpu.specs.declared.{place.Pages.Pages, place.Place.Place}
 use Rattle.cpu.specs.declared.place.Place.TheVariants.{Whole, Split}
 
@@ -33,7 +33,7 @@ placed_one va (Err f) = Err (fault_at va f)
 -- what two found: a fault of the second is at the next page's first address
 abbrev pub placed_both : ℕ → Answer → Answer → Placed
 placed_both va (Ok pa) (Ok pa2) = Ok (Split (record { in_page = in_page va; pa = pa; pa2 = pa2 }))
-placed_both va (Ok pa) (Err f) = Err (fault_at (next_page va) f)
+placed_both va (Ok pa) (Err f) = Err (second_fault_at (next_page va) pa f)
 placed_both va (Err f) b = Err (fault_at va f)
 
 abbrev pub first_pa : Place → ℕ
@@ -54,6 +54,11 @@ unfoldable pub first_outside : ℕ → ℕ → Pages → ℕ → ℕ → Verdict
 first_outside base len p i zero = Ok tt
 first_outside base len p i (suc n) =
     if within base len 1 (byte_at p i) then first_outside base len p (i + 1) n else Err (outside_at i (byte_at p i))
+
+-- Where the second page faults, the first page's bytes are judged: those below in_page va, and no byte of the second.
+abbrev pub first_part : ℕ → ℕ → ℕ → Option ℕ → Verdict
+first_part base len va (Some pa) = first_outside base len (record { in_page = in_page va; pa = pa; pa2 = 0 }) 0 (in_page va)
+first_part base len va None = Ok tt
 
 -- each of its n bytes lies in RAM
 pub record Lie (base len : ℕ) (p : Pages) (n : ℕ) : Type 0 where

@@ -5,7 +5,7 @@ use Rattle.word.specs.Bits.{flag}
 use Rattle.fault.specs.First.{first}
 use Rattle.exception.specs.declared.{kind.Stop.Stop, kind.Exception.Exception}
 use Rattle.exception.specs.declared.kind.Exception.TheVariants.{Undefined, Svc, Hvc, Smc, Brk, DataAbort, InsnAbort, PcAlignment}
-use Rattle.cpu.specs.Answers.{Placed, LoadAnswer, StoreAnswer, FetchAnswer, fault_at}
+use Rattle.cpu.specs.Answers.{Placed, LoadAnswer, StoreAnswer, FetchAnswer, fault_at, second_fault_at}
 use Rattle.cpu.specs.Place.{in_page, next_page, crosses, placed_both, byte_at}
 use Rattle.cpu.specs.Ends.{LoadEnd, StoreEnd, FetchEnd, load_end, store_end, store_ram_end, fetch_end}
 use Rattle.cpu.specs.declared.place.Pages.{Pages}
@@ -40,7 +40,7 @@ pages pa pa2 = record { in_page = 2; pa = pa; pa2 = pa2 }
 abbrev pub ByteRows : Type 0
 ByteRows = map (byte_at (pages 0x8FFE 0x5000)) (0 ∷ 1 ∷ 2 ∷ 3 ∷ []) ≡ (0x8FFE ∷ 0x8FFF ∷ 0x5000 ∷ 0x5001 ∷ [])
 
--- a fault of the first page is reported at the access's address, one of the second at that page's first
+-- a fault of the first page is reported at the access's address, one of the second at that page's first, with where the first page's bytes lie
 abbrev pub FaultRows : Type 0
 FaultRows =
     (placed_both 0x40001FFE (Err (first 0x07)) (Ok 0x5000)
@@ -51,8 +51,8 @@ FaultRows =
     ∷ [])
     ≡ (Err (fault_at 0x40001FFE (first 0x07))
     ∷ Err (fault_at 0x40001FFE (first 0x07))
-    ∷ Err (fault_at 0x40002000 (first 0x0F))
-    ∷ Err (fault_at 0 (first 0x0F))
+    ∷ Err (second_fault_at 0x40002000 0x8FFE (first 0x0F))
+    ∷ Err (second_fault_at 0 0x8FFE (first 0x0F))
     ∷ Ok (Split (pages 0x8FFE 0x5000))
     ∷ [])
 
@@ -101,7 +101,8 @@ loads placed base ram va n = load_numbers (load_end placed 1 2 base ram va n)
 abbrev pub stores : Placed → ℕ → List ℕ → ℕ → ℕ → ℕ → List (List ℕ)
 stores placed base ram va n v = store_numbers (store_end placed 2 base ram va n) (store_ram_end placed base ram n v)
 
--- Loads: one page, of each size; a fault; the first byte outside, and a later one.
+-- Loads: one page, of each size; the first byte outside, and a later one. A fault of the first page; one of the second, behind no byte outside, behind
+-- the second byte and behind the first, and on the space's last page.
 -- Two pages: all four bytes in RAM, the pages side by side; the first, the second, the third and the fourth byte the lowest outside; the third at address 0
 abbrev pub bytes4 : List ℕ
 bytes4 = 0x11 ∷ 0x22 ∷ 0x33 ∷ 0x44 ∷ []
@@ -113,7 +114,11 @@ LoadRows =
     ∷ loads (Ok (Whole 0x8000)) 0x8000 bytes4 0x40001000 4
     ∷ loads (Ok (Whole 0x7FFF)) 0x8000 bytes4 0x40001FFF 1
     ∷ loads (Ok (Whole 0x8002)) 0x8000 bytes4 0x40001002 4
-    ∷ loads (Err (fault_at 0x40002000 (first 0x0F))) 0x8000 bytes4 0x40001FFE 4
+    ∷ loads (Err (fault_at 0x40001FFE (first 0x0F))) 0x8000 bytes4 0x40001FFE 4
+    ∷ loads (Err (second_fault_at 0x40002000 0x8FFE (first 0x0F))) 0x8FFE bytes4 0x40001FFE 4
+    ∷ loads (Err (second_fault_at 0x40002000 0x8FFE (first 0x0F))) 0x8FFB bytes4 0x40001FFE 4
+    ∷ loads (Err (second_fault_at 0x40002000 0x8FFE (first 0x0F))) 0x9000 bytes4 0x40001FFE 4
+    ∷ loads (Err (second_fault_at 0 0x8FFE (first 0x0F))) 0x8FFB bytes4 0xFFFFFFFFFFFFFFFE 4
     ∷ loads (Ok (Split (pages 0x8FFE 0x9000))) 0x8FFE bytes4 0x40001FFE 4
     ∷ loads (Ok (Split (pages 0x8FFE 0x5000))) 0x5000 bytes4 0x40001FFE 4
     ∷ loads (Ok (Split (pages 0x8FFE 0x5000))) 0x8FFB bytes4 0x40001FFE 4
@@ -126,7 +131,11 @@ LoadRows =
     ∷ (0x8000 ∷ 2 ∷ 0x44332211 ∷ [])
     ∷ (0x7FFF ∷ 0x7FFF ∷ 0x40001FFF ∷ 0x10 ∷ 0 ∷ [])
     ∷ (0x8002 ∷ 0x8002 ∷ 0x40001002 ∷ 0x10 ∷ 0 ∷ [])
+    ∷ (1 ∷ 2 ∷ 0x40001FFE ∷ 0x0F ∷ 0 ∷ [])
     ∷ (1 ∷ 2 ∷ 0x40002000 ∷ 0x0F ∷ 0 ∷ [])
+    ∷ (1 ∷ 0x8FFF ∷ 0x40001FFF ∷ 0x10 ∷ 0 ∷ [])
+    ∷ (1 ∷ 0x8FFE ∷ 0x40001FFE ∷ 0x10 ∷ 0 ∷ [])
+    ∷ (1 ∷ 0x8FFF ∷ 0xFFFFFFFFFFFFFFFF ∷ 0x10 ∷ 0 ∷ [])
     ∷ (0x8FFE ∷ 2 ∷ 0x44332211 ∷ [])
     ∷ (0x8FFE ∷ 0x8FFE ∷ 0x40001FFE ∷ 0x10 ∷ 0 ∷ [])
     ∷ (0x8FFE ∷ 0x8FFF ∷ 0x40001FFF ∷ 0x10 ∷ 0 ∷ [])
@@ -135,13 +144,14 @@ LoadRows =
     ∷ (0x8FFE ∷ 0x5000 ∷ 0 ∷ 0x10 ∷ 0 ∷ [])
     ∷ [])
 
--- stores of 0xDDCCBBAA: on one page all or nothing, on two the bytes before the lowest outside
+-- stores of 0xDDCCBBAA: on one page all or nothing, on two the bytes before the lowest outside, and none where the second page faults
 abbrev pub StoreRows : Type 0
 StoreRows =
     (stores (Ok (Whole 0x8001)) 0x8000 bytes4 0x40001001 2 0xDDCCBBAA
     ∷ stores (Ok (Whole 0x8000)) 0x8000 bytes4 0x40001000 4 0xDDCCBBAA
     ∷ stores (Ok (Whole 0x8002)) 0x8000 bytes4 0x40001002 4 0xDDCCBBAA
-    ∷ stores (Err (fault_at 0x40002000 (first 0x0F))) 0x8000 bytes4 0x40001FFE 4 0xDDCCBBAA
+    ∷ stores (Err (second_fault_at 0x40002000 0x8FFE (first 0x0F))) 0x8FFE bytes4 0x40001FFE 4 0xDDCCBBAA
+    ∷ stores (Err (second_fault_at 0x40002000 0x8FFE (first 0x0F))) 0x8FFB bytes4 0x40001FFE 4 0xDDCCBBAA
     ∷ stores (Ok (Split (pages 0x8FFE 0x9000))) 0x8FFE bytes4 0x40001FFE 4 0xDDCCBBAA
     ∷ stores (Ok (Split (pages 0x8FFE 0x5000))) 0x5000 bytes4 0x40001FFE 4 0xDDCCBBAA
     ∷ stores (Ok (Split (pages 0x8FFE 0x5000))) 0x8FFC bytes4 0x40001FFE 4 0xDDCCBBAA
@@ -151,6 +161,7 @@ StoreRows =
     ∷ ((2 ∷ []) ∷ (0xAA ∷ 0xBB ∷ 0xCC ∷ 0xDD ∷ []) ∷ [])
     ∷ ((0x8002 ∷ 0x40001002 ∷ 0x10 ∷ 1 ∷ []) ∷ bytes4 ∷ [])
     ∷ ((2 ∷ 0x40002000 ∷ 0x0F ∷ 1 ∷ []) ∷ bytes4 ∷ [])
+    ∷ ((0x8FFF ∷ 0x40001FFF ∷ 0x10 ∷ 1 ∷ []) ∷ bytes4 ∷ [])
     ∷ ((2 ∷ []) ∷ (0xAA ∷ 0xBB ∷ 0xCC ∷ 0xDD ∷ []) ∷ [])
     ∷ ((0x8FFE ∷ 0x40001FFE ∷ 0x10 ∷ 1 ∷ []) ∷ bytes4 ∷ [])
     ∷ ((0x5000 ∷ 0x40002000 ∷ 0x10 ∷ 1 ∷ []) ∷ (0x11 ∷ 0x22 ∷ 0xAA ∷ 0xBB ∷ []) ∷ [])

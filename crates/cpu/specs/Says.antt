@@ -6,7 +6,7 @@ use Rattle.tlb.specs.Answers.{Answer}
 use Rattle.cpu.specs.Answers.{Placed, Verdict, LoadAnswer, StoreAnswer, FetchAnswer}
 use Rattle.exception.specs.declared.{kind.Stop.Stop, kind.Exception.Exception}
 use Rattle.exception.specs.declared.kind.Exception.TheVariants.{Undefined, Svc, Hvc, Smc, Brk, DataAbort, InsnAbort, PcAlignment}
-use Rattle.cpu.specs.Place.{verdict_of}
+use Rattle.cpu.specs.Place.{first_part, verdict_of}
 use Rattle.cpu.specs.declared.place.Place.{Place}
 
 -- value: what was loaded or fetched, or where an access goes. lies: the place of an access. faults: no more is told.
@@ -66,14 +66,19 @@ abbrev pub memory_says : Verdict → ℕ → Said → Said
 memory_says (Ok x) va said = said
 memory_says (Err out) va said = fault (wrap (va + out.index)) 0x10
 
--- an access: the fault of its translations, or else what memory says
-abbrev pub access_says : Placed → (Place → Verdict) → ℕ → (Place → Said) → Said
-access_says (Err failed) judge va said = fault failed.addr failed.fault.fsc
-access_says (Ok place) judge va said = memory_says (judge place) va (said place)
+-- what the translations of an access say
+abbrev pub translated_says : Placed → (Place → Said) → Said
+translated_says (Err failed) said = fault failed.addr failed.fault.fsc
+translated_says (Ok place) said = said place
 
--- whether its n bytes lie in RAM
-abbrev pub verdict_in : ℕ → List ℕ → ℕ → Place → Verdict
-verdict_in base ram n place = verdict_of base (length ram) place n
+-- an access: what memory says, or else the fault of its translations, or its own answer
+abbrev pub access_says : Placed → (Placed → Verdict) → ℕ → (Place → Said) → Said
+access_says placed judge va said = memory_says (judge placed) va (translated_says placed said)
+
+-- whether its n bytes lie in RAM; where its second page faults, those of its first
+abbrev pub verdict_in : ℕ → List ℕ → ℕ → ℕ → Placed → Verdict
+verdict_in base ram va n (Err failed) = first_part base (length ram) va failed.first
+verdict_in base ram va n (Ok place) = verdict_of base (length ram) place n
 
 -- a fetch reads four bytes: the fault of its translation, or 0x10, at its own address
 abbrev pub insn_says : ℕ → List ℕ → ℕ → Answer → Said

@@ -44,7 +44,7 @@ module _ (s : Bank) (privilege : Privilege) (memory : ℕ → Option ℕ) where
       }
 
   -- The translations of an access of n bytes: its page's; and where it crosses and that was allowed, the next page's,
-  -- in the cache that the first one left. B2: both are made before a byte moves.
+  -- in the cache that the first one left. Both are made before a byte moves.
   unfoldable pub located_of : ℕ → ℕ → Kind → Tlb → Located
   located_of va n kind t =
       if goes_on (translate_in va kind t).answer (crosses (stage1_on s (regime_of privilege.level)) va n) then both_pages va (translate_in va kind t).answer (translate_in (next_page va) kind (translate_in va kind t).tlb)

@@ -1,7 +1,7 @@
 -- What DC ZVA leaves in RAM. Each of its eight stores translates by itself, and RAM may hold the very tables that a
 -- store changes. So first by each store's own translation; and then that the eight agree, whatever becomes of the
 -- tables: 64 bytes at the translation of the aligned address are zero, and every other byte is as it was.
-use Rattle.std.specs.Prelude.{◌≡◌, ℕ, ◌+◌, ◌-◌, ◌^◌, ◌<◌, ◌≤◌, true, List, length, slice_index, Ok}
+use Rattle.std.specs.Prelude.{◌≡◌, ℕ, ◌+◌, ◌-◌, ◌^◌, ◌<◌, ◌≤◌, ◌*◌, Bool, true, false, List, length, slice_index, Ok}
 use Rattle.word.specs.Bits.{align_down}
 use Rattle.word.specs.Ram.{within, word_at}
 use Rattle.system.specs.declared.decode.SysOp.TheVariants.{Zva}
@@ -9,6 +9,7 @@ use Rattle.tlb.specs.Live.{WellFormed}
 use Rattle.tlb.specs.declared.access.Kind.TheVariants.{Write}
 use Rattle.cpu.specs.Core.{reg_of}
 use Rattle.cpu.specs.Memory.{translate_of}
+use Rattle.cpu.specs.Place.{crosses}
 use Rattle.cpu.specs.declared.Core.{Core}
 use Rattle.cpu.specs.System.{zero_of, zero_ram, op_of, sys_of, sys_ram}
 
@@ -29,6 +30,10 @@ LineZeroed =
     (c : Core) (base : ℕ) (ram : List ℕ) (x : ℕ) → WellFormed c.tlb → x < 2 ^ 64 → (zero_of 8 c base ram (align_down x 6)).answer ≡ Ok tt
     → (pa : ℕ) × (((translate_of c (word_at base ram 8) (align_down x 6) Write).answer ≡ Ok pa)
     × Zeroed base pa ram (zero_ram 8 c base ram (align_down x 6)))
+
+-- none of its eight stores takes two pages
+abbrev pub NeverCrosses : Type 0
+NeverCrosses = (on : Bool) (x j : ℕ) → j < 8 → crosses on (align_down x 6 + 8 * j) 8 ≡ false
 
 -- so does the system operation that is DC ZVA
 abbrev pub ZvaZeroes : Type 0

@@ -1,9 +1,10 @@
 // The core's operations on memory.
-ghost use Rattle.std.specs.Prelude.{◌≡◌};
+ghost use Rattle.std.specs.Prelude.{◌≡◌, length};
 ghost use Rattle.word.specs.Ram.{word_at, bytes_in};
 ghost use Rattle.exception.specs.Abort.{insn_abort_at};
 ghost use Rattle.cpu.specs.Core.{bank_now};
-ghost use Rattle.cpu.specs.Ends.{external, data_abort, external_abort};
+ghost use Rattle.cpu.specs.Place.{first_part};
+ghost use Rattle.cpu.specs.Ends.{external, data_abort, external_abort, failed_access, abort_after};
 ghost use Rattle.cpu.specs.Memory.{translate_of, past_hint_of, translate_fetch_of, translate_access_of};
 ghost use Rattle.cpu.specs.Hand.{HandedNow, KeptNow, NeedsWalkNow};
 ghost use Rattle.cpu.specs.Memory.{read_of, write_of, ram_after_write, fetch_of, fetch_pa_of, data_pa_of};
@@ -130,13 +131,21 @@ impl Core {
     {
         let on = self.bank().stage1_on(self.regime());
         let first = self.translate(base, ram, va, kind);
-        let pa = first.map_err(|fault| FaultAt { addr: va, fault })?;
+        let pa = first.map_err(|fault| FaultAt {
+            addr: va,
+            fault,
+            first: None,
+        })?;
         if !place::crosses(on, va, width.bytes()) {
             return Ok(Place::Whole(pa));
         }
         let next = place::next_page(va);
         let second = self.translate(base, ram, next, kind);
-        let pa2 = second.map_err(|fault| FaultAt { addr: next, fault })?;
+        let pa2 = second.map_err(|fault| FaultAt {
+            addr: next,
+            fault,
+            first: Some(pa),
+        })?;
         let in_page = place::in_page(va);
         Ok(Place::Split(Pages { in_page, pa, pa2 }))
     }
@@ -148,8 +157,10 @@ impl Core {
     pub fn read(&mut self, base: u64, ram: &[u8], va: u64, width: Width) -> Result<u64, Stop>
         ensures { record { core = self.new; answer = result } ≡ read_of self.old base ram.now va (bytes_in width) }
     {
-        let placed = self.translate_access(base, ram, va, width, Kind::Read);
-        let place = placed.map_err(|at| data_abort(at.addr, false, at.fault))?;
+        let place = match self.translate_access(base, ram, va, width, Kind::Read) {
+            Ok(place) => place,
+            Err(at) => return Err(self.failed(base, ram, va, at, false)),
+        };
         self.last_pa = place.first_pa();
         match bytes::load(base, ram, place, width) {
             Ok(v) => Ok(v),
@@ -172,11 +183,26 @@ impl Core {
             ≡ write_of self.old base ram.old va (bytes_in width) }
         ensures ram { ram.new ≡ ram_after_write self.old base ram.old va (bytes_in width) value }
     {
-        let placed = self.translate_access(base, ram, va, width, Kind::Write);
-        let place = placed.map_err(|at| data_abort(at.addr, true, at.fault))?;
+        let place = match self.translate_access(base, ram, va, width, Kind::Write) {
+            Ok(place) => place,
+            Err(at) => return Err(self.failed(base, ram, va, at, true)),
+        };
         match bytes::store(base, ram, place, width, value) {
             Ok(()) => Ok(()),
             Err(out) => Err(self.external_abort(out, va, true)),
+        }
+    }
+
+    // A translation of the access to va faulted. The lowest failing byte decides: one of the first page that lies
+    // outside RAM comes before a fault of the second.
+    fn failed(&mut self, base: u64, ram: &[u8], va: u64, at: FaultAt, write: bool) -> Stop
+        ensures answer { result ≡ failed_access (first_part base (length ram.now) va at.first) at va write }
+        ensures core { self.new ≡ record self.old
+            { abort_pa = abort_after (first_part base (length ram.now) va at.first) self.old.abort_pa } }
+    {
+        match place::first_part(base, ram.len() as u64, va, at.first) {
+            Ok(()) => data_abort(at.addr, write, at.fault),
+            Err(out) => self.external_abort(out, va, write),
         }
     }
 

@@ -1,6 +1,7 @@
 // Where the bytes of an access lie, and which of them lie outside RAM.
 ghost use Rattle.std.specs.Prelude.{◌≡◌, ◌≤◌};
-ghost use Rattle.cpu.specs.Place.{in_page, next_page, crosses as crosses_of, first_pa, byte_at, first_outside};
+ghost use Rattle.cpu.specs.Place.{in_page, next_page, crosses as crosses_of, first_pa, byte_at};
+ghost use Rattle.cpu.specs.Place.{first_outside, first_part};
 
 use fault::Fault;
 use word::ram;
@@ -20,11 +21,13 @@ pub enum Place {
     Split(Pages),
 }
 
-/// A fault of a translation, and the virtual address that it is reported at.
+/// A fault of a translation, and the virtual address that it is reported at. Where it is the second page's, `first` is
+/// the physical address of the first page's bytes.
 #[derive(Clone, Copy)]
 pub struct FaultAt {
     pub addr: u64,
     pub fault: Fault,
+    pub first: Option<u64>,
 }
 
 /// The lowest byte of an access that lies outside RAM: which one, and its physical address.
@@ -94,4 +97,22 @@ pub fn first_outside(base: u64, len: u64, p: Pages, n: u64) -> Result<(), Outsid
         i += 1;
     }
     Ok(())
+}
+
+/// The bytes of the first of two pages, where the second page faults: the lowest that lies outside RAM.
+pub fn first_part(base: u64, len: u64, va: u64, first: Option<u64>) -> Result<(), Outside>
+    ensures { result ≡ first_part base len va first }
+{
+    match first {
+        Some(pa) => {
+            let in_page = in_page(va);
+            let part = Pages {
+                in_page,
+                pa,
+                pa2: 0,
+            };
+            first_outside(base, len, part, in_page)
+        }
+        None => Ok(()),
+    }
 }

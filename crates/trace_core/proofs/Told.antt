@@ -11,9 +11,9 @@ use Rattle.tlb.specs.Answers.{Answer}
 use Rattle.tlb.specs.declared.access.Kind.{Kind}
 use Rattle.cpu.specs.Answers.{Placed, Verdict, Got}
 use Rattle.cpu.specs.Bytes.{load_of, insn_of}
-use Rattle.cpu.specs.Ends.{load_end, loaded_from, store_end, store_end_by, fetch_end, fetched_from}
+use Rattle.cpu.specs.Ends.{failed_access, load_end, loaded_from, store_end, store_end_by, fetch_end, fetched_from}
 use Rattle.cpu.specs.Replies.{translation, reaching, loading, storing, fetching}
-use Rattle.cpu.specs.Place.{verdict_of}
+use Rattle.cpu.specs.Place.{first_part, verdict_of}
 use Rattle.cpu.specs.declared.{call.Call.Call, call.Reply.Reply}
 use Rattle.cpu.specs.declared.call.Reply.TheVariants.{Refused, Done, Value, Faults, Fault, Stopped}
 use Rattle.tlb.specs.declared.access.Kind.TheVariants.{Read, Write}
@@ -93,8 +93,11 @@ reached None = refl
 
 loaded : (x : Placed) (last abort base : ℕ) (ram : List ℕ) (va n : ℕ) → PlacedByte x → IsTold Value read_faults (loading (load_end x last abort base ram va n).answer)
 unfolding load_end
-loaded (Err failed) last abort base ram va n l =
-    faulted failed.fault.fsc (Value failed.addr) (λ s. Stopped (Stop.Exception (data_abort_at failed.addr false (first s)))) l
+loaded (Err failed) last abort base ram va n l = go (first_part base (length ram) va failed.first)
+  where
+    go : (d : Verdict) → IsTold Value read_faults (loading (Err (failed_access d failed va false)))
+    go (Ok x) = faulted failed.fault.fsc (Value failed.addr) (λ s. Stopped (Stop.Exception (data_abort_at failed.addr false (first s)))) l
+    go (Err out) = refl
 loaded (Ok place) last abort base ram va n l = go (load_of base ram place n)
   where
     go : (g : Got) → IsTold Value read_faults (loading (loaded_from place g abort va).answer)
@@ -103,8 +106,11 @@ loaded (Ok place) last abort base ram va n l = go (load_of base ram place n)
 
 stored : (x : Placed) (abort base : ℕ) (ram : List ℕ) (va n : ℕ) → PlacedByte x → IsTold stored_as write_faults (storing (store_end x abort base ram va n).answer)
 unfolding store_end
-stored (Err failed) abort base ram va n l =
-    faulted failed.fault.fsc Done (λ s. Stopped (Stop.Exception (data_abort_at failed.addr true (first s)))) l
+stored (Err failed) abort base ram va n l = go (first_part base (length ram) va failed.first)
+  where
+    go : (d : Verdict) → IsTold stored_as write_faults (storing (Err (failed_access d failed va true)))
+    go (Ok x) = faulted failed.fault.fsc Done (λ s. Stopped (Stop.Exception (data_abort_at failed.addr true (first s)))) l
+    go (Err out) = refl
 stored (Ok place) abort base ram va n l = go (verdict_of base (length ram) place n)
   where
     go : (d : Verdict) → IsTold stored_as write_faults (storing (store_end_by d abort va).answer)

@@ -2,7 +2,7 @@
 -- byte of the access.
 use Rattle.std.specs.Prelude.{if◌then◌else◌, ◌≡◌, Bool, true, false, ◌⊎◌, ℕ, zero, suc, ◌+◌, ◌%◌, ◌^◌, ◌≤◌, ◌<◌, length, Option, Some, None, Ok, Err}
 use Rattle.std.proofs.Math.Path.{refl, ap, subst⁻¹}
-use Rattle.std.proofs.Common.{sym, subst, ◌∙◌, inl, inr, arith, add-zero}
+use Rattle.std.proofs.Common.{sym, subst, ◌∙◌, inl, inr, arith, add-zero, ltb-true}
 use mathlib.Core.List.{List, [], ◌∷◌, ◌++◌, append-nil, Memᴰ}
 use Rattle.std.proofs.Math.Nat.{mod-mod}
 use Rattle.word.specs.Bits.{align_down, wrap}
@@ -15,14 +15,14 @@ use Rattle.tlb.specs.Asks.{Ask, translates, fetches, address_of, Given, onward}
 use Rattle.tlb.proofs.Asks.{onward-same}
 use Rattle.tlb.specs.declared.{access.Kind.Kind, Tlb.Tlb}
 use Rattle.tlb.specs.Answers.{Answer}
-use Rattle.cpu.specs.Answers.{Placed, Verdict, fault_at, outside_at}
+use Rattle.cpu.specs.Answers.{Placed, Verdict, outside_at}
 use Rattle.cpu.specs.Bare.{Bare}
-use Rattle.cpu.specs.Place.{next_page, crosses, byte_at, first_outside, verdict_of}
+use Rattle.cpu.specs.Place.{in_page, next_page, crosses, byte_at, first_outside, first_part, verdict_of}
 use Rattle.cpu.proofs.PlaceLaws.{same-outside, same-fault}
 use Rattle.cpu.specs.Bytes.{got_by, value_at, load_of, insn_of}
 use Rattle.cpu.specs.Asks.{asks_by, placed_from}
-use Rattle.cpu.specs.Ends.{reached_by, loaded_from, load_end, store_end_by, store_end, fetched_from, fetch_end}
-use Rattle.cpu.specs.declared.{place.Pages.Pages, place.Place.Place}
+use Rattle.cpu.specs.Ends.{reached_by, failed_access, loaded_from, load_end, store_end_by, store_end, fetched_from, fetch_end}
+use Rattle.cpu.specs.declared.{place.Pages.Pages, place.Place.Place, place.FaultAt.FaultAt}
 use Rattle.cpu.specs.declared.call.Call.{Call}
 use Rattle.cpu.specs.declared.place.Place.TheVariants.{Whole, Split}
 use Rattle.system.specs.declared.decode.SysOp.{SysOp}
@@ -74,57 +74,72 @@ byte_low base len (Whole q) n j pa some e = go (within base len n q) e
     go false f = let h : 0 ≡ j = (same-outside _ _ _ _ f).0 in omega arith
 byte_low base len (Split p) n j pa some e = let h : j < 0 + n = first-outside base len p 0 n j pa e in omega arith
 
--- AN ACCESS: a fault is that of one of its translations, and a place begins where the first was allowed
+-- AN ACCESS of n bytes: a fault is that of one of its translations, and a place begins where the first was allowed, as does the first page where the
+-- second faults
 
-pub record PlacedFrom (va : ℕ) (gs : List Given) : Type 0 where
-  pub faulting : (a : ℕ) (fault : Fault) → placed_from va gs ≡ Err (fault_at a fault)
-      → (g : Given) × Memᴰ g gs × (address_of g.ask ≡ a) × (g.answer ≡ Err fault)
+pub record PlacedFrom (va n : ℕ) (gs : List Given) : Type 0 where
+  pub faulting : (x : FaultAt) → placed_from va gs ≡ Err x → (g : Given) × Memᴰ g gs × (address_of g.ask ≡ x.addr) × (g.answer ≡ Err x.fault)
+  pub behind : (x : FaultAt) (q : ℕ) → placed_from va gs ≡ Err x → x.first ≡ Some q
+      → (g : Given) × Memᴰ g gs × (address_of g.ask ≡ va) × (pa : ℕ) × (g.answer ≡ Ok pa) × (in_page va < n)
   pub lying : (place : Place) → placed_from va gs ≡ Ok place
       → (g : Given) × Memᴰ g gs × (address_of g.ask ≡ va) × (pa : ℕ) × (g.answer ≡ Ok pa)
 
 -- two translations, by their answers
-module _ (va : ℕ) (kind : Kind) where
+module _ (va n : ℕ) (kind : Kind) where
   abbrev one : Answer → Given
   one x = record { ask = translates kind va; answer = x }
 
   abbrev two : Answer → Given
   two y = record { ask = translates kind (next_page va); answer = y }
 
-  placed_one : (x : Answer) → PlacedFrom va (one x ∷ [])
+  placed_one : (x : Answer) → PlacedFrom va n (one x ∷ [])
   placed_one (Ok pa) =
       record {
-        faulting = λ a fault e. let z : ◌≡◌ {A = ℕ} 0 1 = cc in absurd (omega arith);
+        faulting = λ x e. let z : ◌≡◌ {A = ℕ} 0 1 = cc in absurd (omega arith);
+        behind = λ x q e k. let z : ◌≡◌ {A = ℕ} 0 1 = cc in absurd (omega arith);
         lying = λ place e. (one (Ok pa), Memᴰ.head refl, refl, pa, refl);
       }
   placed_one (Err f) =
       record {
-        faulting = λ a fault e. (one (Err f), Memᴰ.head refl, (same-fault _ _ _ _ e).0, ap Err (same-fault _ _ _ _ e).1);
+        faulting = λ x e. (one (Err f), Memᴰ.head refl, ap (λ (y : FaultAt). y.addr) (same-fault _ x e), ap (λ (y : FaultAt). Err y.fault) (same-fault _ x e));
+        behind = λ x q e k.
+            let h : ◌≡◌ {A = Option ℕ} None (Some q) = ap (λ (y : FaultAt). y.first) (same-fault _ x e) ∙ k in
+            let z : ◌≡◌ {A = ℕ} 0 1 = cc in
+            absurd (omega arith);
         lying = λ place e. let z : ◌≡◌ {A = ℕ} 0 1 = cc in absurd (omega arith);
       }
 
-  placed-two : (pa : ℕ) (y : Answer) → PlacedFrom va (one (Ok pa) ∷ two y ∷ [])
-  placed-two pa (Ok pb) =
+  placed-two : in_page va < n → (pa : ℕ) (y : Answer) → PlacedFrom va n (one (Ok pa) ∷ two y ∷ [])
+  placed-two close pa (Ok pb) =
       record {
-        faulting = λ a fault e. let z : ◌≡◌ {A = ℕ} 0 1 = cc in absurd (omega arith);
+        faulting = λ x e. let z : ◌≡◌ {A = ℕ} 0 1 = cc in absurd (omega arith);
+        behind = λ x q e k. let z : ◌≡◌ {A = ℕ} 0 1 = cc in absurd (omega arith);
         lying = λ place e. (one (Ok pa), Memᴰ.head refl, refl, pa, refl);
       }
-  placed-two pa (Err f) =
+  placed-two close pa (Err f) =
       record {
-        faulting = λ a fault e. (two (Err f), Memᴰ.tail (Memᴰ.head refl), (same-fault _ _ _ _ e).0, ap Err (same-fault _ _ _ _ e).1);
+        faulting = λ x e. (
+          two (Err f),
+          Memᴰ.tail (Memᴰ.head refl),
+          ap (λ (y : FaultAt). y.addr) (same-fault _ x e),
+          ap (λ (y : FaultAt). Err y.fault) (same-fault _ x e),
+        );
+        behind = λ x q e k. (one (Ok pa), Memᴰ.head refl, refl, pa, refl, close);
         lying = λ place e. let z : ◌≡◌ {A = ℕ} 0 1 = cc in absurd (omega arith);
       }
 
-  pub answers-placed : (c : Bool) (q : Plain real) (m : Ram) (t : Tlb) → PlacedFrom va (answers real q m (asks_by c va kind) t)
-  answers-placed false q m t =
-      subst (λ (l : List Given). PlacedFrom va (one (answer_of real q m (translates kind va) t) ∷ l))
+  pub answers-placed : (c : Bool) → (c ≡ true → in_page va < n) → (q : Plain real) (m : Ram) (t : Tlb)
+      → PlacedFrom va n (answers real q m (asks_by c va kind) t)
+  answers-placed false close q m t =
+      subst (λ (l : List Given). PlacedFrom va n (one (answer_of real q m (translates kind va) t) ∷ l))
       (sym (onward-same (answer_of real q m (translates kind va) t) []))
       (placed_one (answer_of real q m (translates kind va) t))
-  answers-placed true q m t =
+  answers-placed true close q m t =
       go (answer_of real q m (translates kind va) t)
       (answer_of real q m (translates kind (next_page va)) (tlb_ask real q m (translates kind va) t))
     where
-      go : (x y : Answer) → PlacedFrom va (one x ∷ onward {A = List Given} x (two y ∷ onward {A = List Given} y [] []) [])
-      go (Ok pa) y = subst (λ (l : List Given). PlacedFrom va (one (Ok pa) ∷ two y ∷ l)) (sym (onward-same y [])) (placed-two pa y)
+      go : (x y : Answer) → PlacedFrom va n (one x ∷ onward {A = List Given} x (two y ∷ onward {A = List Given} y [] []) [])
+      go (Ok pa) y = subst (λ (l : List Given). PlacedFrom va n (one (Ok pa) ∷ two y ∷ l)) (sym (onward-same y [])) (placed-two (close refl) pa y)
       go (Err f) y = placed_one (Err f)
 
 -- WHAT AN ACCESS REPLIES
@@ -133,7 +148,7 @@ some_bytes : (w : Width) → (0 < bytes_in w) × (bytes_in w ≤ 8)
 some_bytes Width.Byte = (omega arith, omega arith)
 some_bytes _ = (omega arith, omega arith)
 
-module _ (m : Ram) (va n : ℕ) (some : 0 < n) (few : n ≤ 8) (gs : List Given) (from : PlacedFrom va gs) (addr : ℕ) (fault : Fault) where
+module _ (m : Ram) (va n : ℕ) (some : 0 < n) (few : n ≤ 8) (gs : List Given) (from : PlacedFrom va n gs) (addr : ℕ) (fault : Fault) where
   -- a byte outside
   out : (place : Place) (j pa : ℕ) → placed_from va gs ≡ Ok place → verdict_of m.base (length m.bytes) place n ≡ Err (outside_at j pa)
       → wrap (va + j) ≡ addr → first 0x10 ≡ fault → FaultFrom gs addr fault
@@ -142,14 +157,31 @@ module _ (m : Ram) (va n : ℕ) (some : 0 < n) (few : n ≤ 8) (gs : List Given)
       let low : j < n = byte_low m.base (length m.bytes) place n j pa some v in
       outside g mem pb r j (omega arith) (ap wrap (sym a) ∙ mod-mod (va + j) (2 ^ 64) ∙ ap (λ (x : ℕ). wrap (x + j)) (sym q)) (sym f)
 
+  -- a byte of the first page outside, where the second faults
+  out_part : (x : FaultAt) (j pa : ℕ) → placed_from va gs ≡ Err x → first_part m.base (length m.bytes) va x.first ≡ Err (outside_at j pa)
+      → wrap (va + j) ≡ addr → first 0x10 ≡ fault → FaultFrom gs addr fault
+  out_part x j pa e v a f = go x.first refl v
+    where
+      go : (p : Option ℕ) → x.first ≡ p → first_part m.base (length m.bytes) va p ≡ Err (outside_at j pa) → FaultFrom gs addr fault
+      go None k v = let z : ◌≡◌ {A = ℕ} 0 1 = cc in absurd (omega arith)
+      go (Some q) k v =
+          let (g, mem, r, pb, s, close) = from.behind x q e k in
+          let low : j < 0 + in_page va = first-outside m.base (length m.bytes) _ 0 (in_page va) j pa v in
+          outside g mem pb s j (omega arith) (ap wrap (sym a) ∙ mod-mod (va + j) (2 ^ 64) ∙ ap (λ (y : ℕ). wrap (y + j)) (sym r)) (sym f)
+
   load_from : RepliesFault (load_says m va n gs).reply addr fault → FaultFrom gs addr fault
   unfolding load_end load_of
   load_from = go (placed_from va gs) refl
     where
       go : (q : Placed) → placed_from va gs ≡ q → RepliesFault (loading (load_end q 0 0 m.base m.bytes va n).answer) addr fault → FaultFrom gs addr fault
-      go (Err failed) e w =
-          let (g, mem, p, r) = from.faulting failed.addr failed.fault e in
-          translating g mem (p ∙ w.0) (r ∙ ap Err w.1)
+      go (Err failed) e w = by-part (first_part m.base (length m.bytes) va failed.first) refl w
+        where
+          by-part : (d : Verdict) → first_part m.base (length m.bytes) va failed.first ≡ d
+              → RepliesFault (loading (Err (failed_access d failed va false))) addr fault → FaultFrom gs addr fault
+          by-part (Ok _) d x =
+              let (g, mem, p, r) = from.faulting failed e in
+              translating g mem (p ∙ x.0) (r ∙ ap Err x.1)
+          by-part (Err o) d x = out_part failed o.index o.pa e d x.0 x.1
       go (Ok place) e w = by-verdict (verdict_of m.base (length m.bytes) place n) refl w
         where
           by-verdict : (v : Verdict) → verdict_of m.base (length m.bytes) place n ≡ v
@@ -162,9 +194,14 @@ module _ (m : Ram) (va n : ℕ) (some : 0 < n) (few : n ≤ 8) (gs : List Given)
   store-from v = go (placed_from va gs) refl
     where
       go : (q : Placed) → placed_from va gs ≡ q → RepliesFault (storing (store_end q 0 m.base m.bytes va n).answer) addr fault → FaultFrom gs addr fault
-      go (Err failed) e w =
-          let (g, mem, p, r) = from.faulting failed.addr failed.fault e in
-          translating g mem (p ∙ w.0) (r ∙ ap Err w.1)
+      go (Err failed) e w = by-part (first_part m.base (length m.bytes) va failed.first) refl w
+        where
+          by-part : (d : Verdict) → first_part m.base (length m.bytes) va failed.first ≡ d
+              → RepliesFault (storing (Err (failed_access d failed va true))) addr fault → FaultFrom gs addr fault
+          by-part (Ok _) d x =
+              let (g, mem, p, r) = from.faulting failed e in
+              translating g mem (p ∙ x.0) (r ∙ ap Err x.1)
+          by-part (Err o) d x = out_part failed o.index o.pa e d x.0 x.1
       go (Ok place) e w = by-verdict (verdict_of m.base (length m.bytes) place n) refl w
         where
           by-verdict : (d : Verdict) → verdict_of m.base (length m.bytes) place n ≡ d
@@ -178,14 +215,19 @@ from-later : (g : Given) (gs : List Given) (addr : ℕ) (fault : Fault) → Faul
 from-later g gs addr fault (translating h mem p r) = translating h (Memᴰ.tail mem) p r
 from-later g gs addr fault (outside h mem pa r i low p f) = outside h (Memᴰ.tail mem) pa r i low p f
 
-placed-nil : (va : ℕ) (gs : List Given) → PlacedFrom va gs → PlacedFrom va (gs ++ [])
-placed-nil va gs s = subst (PlacedFrom va) (sym (append-nil gs)) s
+placed-nil : (va n : ℕ) (gs : List Given) → PlacedFrom va n gs → PlacedFrom va n (gs ++ [])
+placed-nil va n gs s = subst (PlacedFrom va n) (sym (append-nil gs)) s
+
+near : (on : Bool) (va n : ℕ) → crosses on va n ≡ true → in_page va < n
+near true va n e = ltb-true _ _ e
+near false va n e = let z : ◌≡◌ {A = ℕ} 0 1 = cc in absurd (omega arith)
 
 zero-from : (b : Bare) (m : Ram) (ms : List Ram) (va : ℕ) (t : Tlb) (addr : ℕ) (fault : Fault) → va % 8 ≡ 0
     → RepliesFault (zero_says m ms va (answers_run real (plain_in b) (zero_steps b m ms va) t)).reply addr fault
     → FaultFrom (answers_run real (plain_in b) (zero_steps b m ms va) t) addr fault
 zero-from b m [] va t addr fault al w =
-    store-from m va 8 (omega arith) (omega arith) _ (placed-nil va _ (answers-placed va Kind.Write (crosses (on_now real (plain_in b)) va 8) (plain_in b) m t))
+    store-from m va 8 (omega arith) (omega arith) _
+    (placed-nil va 8 _ (answers-placed va 8 Kind.Write (crosses (on_now real (plain_in b)) va 8) (near _ va 8) (plain_in b) m t))
     addr fault 0 w
 zero-from b m (n ∷ ms) va t addr fault al w =
     subst (λ (l : List Given). FaultFrom (l ++ rest) addr fault) (sym (one-given b t m va al))
@@ -207,7 +249,8 @@ load-sized-from : (s : Option Width) (b : Bare) (m : Ram) (va : ℕ) (t : Tlb) (
 load-sized-from None b m va t addr fault w = absurd w
 load-sized-from (Some w) b m va t addr fault x =
     load_from m va (bytes_in w) (some_bytes w).0 (some_bytes w).1 _
-    (placed-nil va _ (answers-placed va Kind.Read (crosses (on_now real (plain_in b)) va (bytes_in w)) (plain_in b) m t)) addr fault x
+    (placed-nil va (bytes_in w) _
+    (answers-placed va (bytes_in w) Kind.Read (crosses (on_now real (plain_in b)) va (bytes_in w)) (near _ va (bytes_in w)) (plain_in b) m t)) addr fault x
 
 store-sized-from : (s : Option Width) (b : Bare) (m : Ram) (va v : ℕ) (t : Tlb) (addr : ℕ) (fault : Fault)
     → RepliesFault (store_by_size s m va v (answers real (plain_in b) m (sized_in b va s Kind.Write) t ++ [])).reply addr fault
@@ -215,7 +258,8 @@ store-sized-from : (s : Option Width) (b : Bare) (m : Ram) (va v : ℕ) (t : Tlb
 store-sized-from None b m va v t addr fault w = absurd w
 store-sized-from (Some w) b m va v t addr fault x =
     store-from m va (bytes_in w) (some_bytes w).0 (some_bytes w).1 _
-    (placed-nil va _ (answers-placed va Kind.Write (crosses (on_now real (plain_in b)) va (bytes_in w)) (plain_in b) m t)) addr fault v x
+    (placed-nil va (bytes_in w) _
+    (answers-placed va (bytes_in w) Kind.Write (crosses (on_now real (plain_in b)) va (bytes_in w)) (near _ va (bytes_in w)) (plain_in b) m t)) addr fault v x
 
 module _ (b : Bare) (m : Ram) (t : Tlb) (addr : ℕ) (fault : Fault) where
   translate-from : (a : Ask) (x : Answer) → RepliesFault (translation (address_of a) x) addr fault → (l : List Given)

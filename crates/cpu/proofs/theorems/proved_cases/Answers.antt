@@ -1,5 +1,6 @@
 use Rattle.cpu.specs.Cases.{proved-cases, flat-cases}
+use Rattle.cpu.proofs.CrossingCases.{crossing-cases, crossing-ram}
 use Rattle.cpu.proofs.theorems.proved_cases.Goals as goal
 
 pub returns : goal.returns
-returns c = record { answers = proved-cases; flat = flat-cases }
+returns c = record { answers = proved-cases; flat = flat-cases; crossing = crossing-cases; crossing_ram = crossing-ram }

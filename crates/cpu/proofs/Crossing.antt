@@ -1,0 +1,339 @@
+-- Of an access over two pages the lowest failing byte decides.
+use Rattle.std.specs.Prelude.{if◌then◌else◌, nat_lt, Option, Some, None, Ok, Err, unwrap_or, ◌⊎◌, ◌≢◌}
+use Rattle.std.proofs.Common.{◌≡◌, ℕ, zero, suc, ◌+◌, ◌^◌, ◌<◌, ◌≤◌, Bool, true, false, length, sym, refl, ap, ◌∙◌, inl, inr, arith, ltb-true, ltb-false, lt-ltb, le-ltb}
+use Rattle.word.specs.Bits.{wrap}
+use Rattle.word.specs.Ram.{within}
+use Rattle.fault.specs.declared.Fault.{Fault}
+use Rattle.exception.specs.declared.kind.Stop.{Stop}
+use Rattle.tlb.specs.Answers.{Answer}
+use Rattle.cpu.specs.Answers.{Verdict, LoadAnswer, StoreAnswer, outside_at, second_fault_at}
+use Rattle.cpu.specs.Place.{in_page, next_page, byte_at, first_outside, first_part, verdict_of}
+use Rattle.cpu.specs.Bytes.{value_at, load_of, got_by}
+use Rattle.cpu.specs.Ends.{external, data_abort, failed_access, abort_after, loaded_from, store_end_by, load_end, store_end, store_ram_end}
+use Rattle.cpu.specs.Crossing.{byte_fails, byte_lies, LowestFails, NoneFails, LoadFails, StoreFails, NoneAborts, AbortsAt, LastStays, HalfMovesNothing}
+use Rattle.cpu.specs.Crossing.{OnePageStays, CrossingsStay, TheseChange}
+use Rattle.cpu.specs.EndMeaning.{stop_address}
+use Rattle.cpu.specs.declared.place.Pages.{Pages}
+use Rattle.cpu.specs.declared.place.Place.TheVariants.{Split}
+use Rattle.cpu.proofs.PlaceLaws.{lowest, all-inside}
+
+-- a byte that lies inside does not lie outside
+pub never : (b : Bool) → b ≡ true → b ≡ false → ⊥
+never b t f = let z : ◌≡◌ {A = ℕ} 1 0 = ap (λ (x : Bool). if x then 1 else 0) (sym t ∙ f) in omega arith
+
+-- what a byte of a page that translates meets
+abbrev meets : Bool → Option Fault
+meets w = if w then None else Some external
+
+meets-out : (w : Bool) (f : Fault) → meets w ≡ Some f → (w ≡ false) × (f ≡ external)
+meets-out true f e = let z : ◌≡◌ {A = ℕ} 0 1 = cc in absurd (omega arith)
+meets-out false f e = (refl, cc)
+
+meets-none : (w : Bool) → meets w ≡ None → w ≡ true
+meets-none true e = refl
+meets-none false e = let z : ◌≡◌ {A = ℕ} 0 1 = cc in absurd (omega arith)
+
+-- WHICH BYTE IS JUDGED THE LOWEST
+
+module _ (base len : ℕ) (p : Pages) (n : ℕ) where
+  abbrev outside : ℕ → ℕ → Verdict
+  outside i pa = Err (outside_at i pa)
+
+  abbrev lies : ℕ → Bool
+  lies i = within base len 1 (byte_at p i)
+
+  pub judged-at : (i : ℕ) → i < n → lies i ≡ false → ((j : ℕ) → j < i → lies j ≡ true)
+      → first_outside base len p 0 n ≡ Err (outside_at i (byte_at p i))
+  judged-at i h out before = go (first_outside base len p 0 n) refl
+    where
+      go : (d : Verdict) → first_outside base len p 0 n ≡ d → d ≡ Err (outside_at i (byte_at p i))
+      go (Ok x) e = absurd (never (lies i) (all-inside base len p 0 n e i (omega arith) (omega arith)) out)
+      go (Err o) e =
+          let l = lowest base len p 0 n o.index o.pa e in
+          let there : lies o.index ≡ false = ap (within base len 1) (sym l.at) ∙ l.out in
+          side l.at there (l.before i) (nat_lt i o.index) refl (nat_lt o.index i) refl
+        where
+          side : o.pa ≡ byte_at p o.index → lies o.index ≡ false → (0 ≤ i → i < o.index → lies i ≡ true) → (a : Bool) → nat_lt i o.index ≡ a → (b : Bool)
+              → nat_lt o.index i ≡ b → ◌≡◌ {A = Verdict} (Err o) (Err (outside_at i (byte_at p i)))
+          side q there later true x b y = absurd (never (lies i) (later (omega arith) (ltb-true _ _ x)) out)
+          side q there later false x true y = absurd (never (lies o.index) (before o.index (ltb-true _ _ y)) there)
+          side q there later false x false y =
+              let u : o.index ≤ i = ltb-false _ _ x in
+              let v : i ≤ o.index = ltb-false _ _ y in
+              let same : o.index ≡ i = omega arith in
+              ap (outside o.index) q ∙ ap (λ (k : ℕ). outside k (byte_at p k)) same
+
+  pub judged-inside : ((j : ℕ) → j < n → lies j ≡ true) → first_outside base len p 0 n ≡ Ok tt
+  judged-inside each = go (first_outside base len p 0 n) refl
+    where
+      go : (d : Verdict) → first_outside base len p 0 n ≡ d → d ≡ Ok tt
+      go (Ok x) e = refl
+      go (Err o) e =
+          let l = lowest base len p 0 n o.index o.pa e in
+          let last : o.index < 0 + n = l.last in
+          absurd (never (lies o.index) (each o.index (omega arith)) (ap (within base len 1) (sym l.at) ∙ l.out))
+
+module _ (base len va n : ℕ) where
+  some : 0 < in_page va
+  some = omega arith
+
+  -- THE FIRST PAGE FAULTS
+  first-fails : (g : Fault) (b : Answer) (i : ℕ) (f : Fault) → LowestFails base len va (Err g) b n i f → (i ≡ 0) × (f ≡ g)
+  first-fails g b zero f l =
+      let h : ◌≡◌ {A = Option Fault} (Some g) (Some f) = rw (lt-ltb 0 (in_page va) some) at l.here in (refl, cc)
+  first-fails g b (suc i) f l =
+      let h : ◌≡◌ {A = Option Fault} (Some g) None = rw (lt-ltb 0 (in_page va) some) at (l.before 0 (omega arith)) in
+      let z : ◌≡◌ {A = ℕ} 0 1 = cc in
+      absurd (omega arith)
+
+  -- BOTH TRANSLATE
+  module _ (pa pa2 : ℕ) where
+    abbrev pages : Pages
+    pages = record { in_page = in_page va; pa = pa; pa2 = pa2 }
+
+    both-meet : (i : ℕ) → byte_fails base len va (Ok pa) (Ok pa2) i ≡ meets (within base len 1 (byte_at pages i))
+    both-meet i = go (nat_lt i (in_page va)) refl
+      where
+        go : (x : Bool) → nat_lt i (in_page va) ≡ x → byte_fails base len va (Ok pa) (Ok pa2) i ≡ meets (within base len 1 (byte_at pages i))
+        go true e = rw e refl
+        go false e = rw e refl
+
+    both-lie : (i : ℕ) → byte_lies va (Ok pa) (Ok pa2) i ≡ Some (byte_at pages i)
+    both-lie i = go (nat_lt i (in_page va)) refl
+      where
+        go : (x : Bool) → nat_lt i (in_page va) ≡ x → byte_lies va (Ok pa) (Ok pa2) i ≡ Some (byte_at pages i)
+        go true e = rw e refl
+        go false e = rw e refl
+
+    both-fail : (i : ℕ) (f : Fault) → LowestFails base len va (Ok pa) (Ok pa2) n i f
+        → (first_outside base len pages 0 n ≡ Err (outside_at i (byte_at pages i))) × (f ≡ external)
+    both-fail i f l =
+        let here = meets-out _ f (sym (both-meet i) ∙ l.here) in
+        (judged-at base len pages n i l.below here.0 (λ j h. meets-none _ (sym (both-meet j) ∙ l.before j h)), here.1)
+
+    none-fails : NoneFails base len va (Ok pa) (Ok pa2) n → first_outside base len pages 0 n ≡ Ok tt
+    none-fails l = judged-inside base len pages n (λ j h. meets-none _ (sym (both-meet j) ∙ l j h))
+
+  -- THE SECOND FAULTS
+  module _ (pa : ℕ) (g : Fault) where
+    abbrev half : Pages
+    half = record { in_page = in_page va; pa = pa; pa2 = 0 }
+
+    abbrev part : Verdict
+    part = first_part base len va (Some pa)
+
+    half-meets : (i : ℕ) → i < in_page va → byte_fails base len va (Ok pa) (Err g) i ≡ meets (within base len 1 (byte_at half i))
+    half-meets i h = rw (lt-ltb i (in_page va) h) refl
+
+    half-faults : (i : ℕ) → in_page va ≤ i → byte_fails base len va (Ok pa) (Err g) i ≡ Some g
+    half-faults i h = rw (le-ltb i (in_page va) h) refl
+
+    record HalfIn (i : ℕ) (f : Fault) : Type 0 where
+      pub before : i < in_page va
+      pub judged : part ≡ Err (outside_at i (wrap (pa + i)))
+      pub met : f ≡ external
+
+    record HalfPast (i : ℕ) (f : Fault) : Type 0 where
+      pub at : i ≡ in_page va
+      pub judged : part ≡ Ok tt
+      pub met : f ≡ g
+
+    half-fails : (i : ℕ) (f : Fault) → LowestFails base len va (Ok pa) (Err g) n i f → HalfIn i f ⊎ HalfPast i f
+    half-fails i f l = go (nat_lt i (in_page va)) refl
+      where
+        go : (x : Bool) → nat_lt i (in_page va) ≡ x → HalfIn i f ⊎ HalfPast i f
+        go true e =
+            let h : i < in_page va = ltb-true _ _ e in
+            let here = meets-out _ f (sym (half-meets i h) ∙ l.here) in
+            let judged = judged-at base len half (in_page va) i h here.0 (λ j k. meets-none _ (sym (half-meets j (omega arith)) ∙ l.before j k)) in
+            inl (record { before = h; judged = rw e at judged; met = here.1 })
+        go false e =
+            let h : in_page va ≤ i = ltb-false _ _ e in
+            inr (past h (nat_lt (in_page va) i) refl)
+          where
+            past : in_page va ≤ i → (y : Bool) → nat_lt (in_page va) i ≡ y → HalfPast i f
+            past h true y =
+                let q : ◌≡◌ {A = Option Fault} (Some g) None = sym (half-faults (in_page va) (omega arith)) ∙ l.before (in_page va) (ltb-true _ _ y) in
+                let z : ◌≡◌ {A = ℕ} 0 1 = cc in
+                absurd (omega arith)
+            past h false y =
+                let k : i ≤ in_page va = ltb-false _ _ y in
+                let at : i ≡ in_page va = omega arith in
+                let q : ◌≡◌ {A = Option Fault} (Some g) (Some f) = sym (half-faults i h) ∙ l.here in
+                record {
+                  at = at;
+                  judged = judged-inside base len half (in_page va) (λ j u. meets-none _ (sym (half-meets j u) ∙ l.before j (omega arith)));
+                  met = cc;
+                }
+
+    at-part : (i : ℕ) → i ≡ in_page va → next_page va ≡ wrap (va + i)
+    at-part i e = ap (λ (k : ℕ). wrap (va + k)) (sym e)
+
+    half-stops : (write : Bool) (i : ℕ) (f : Fault) → LowestFails base len va (Ok pa) (Err g) n i f
+        → failed_access part (second_fault_at (next_page va) pa g) va write ≡ data_abort (wrap (va + i)) write f
+    half-stops write i f l = elim (half-fails i f l) [ inl h ↦ in-part h | inr h ↦ past-part h ]
+      where
+        in-part : HalfIn i f → failed_access part (second_fault_at (next_page va) pa g) va write ≡ data_abort (wrap (va + i)) write f
+        in-part h =
+            ap (λ (d : Verdict). failed_access d (second_fault_at (next_page va) pa g) va write) h.judged
+            ∙ ap (λ (x : Fault). data_abort (wrap (va + i)) write x) (sym h.met)
+
+        past-part : HalfPast i f → failed_access part (second_fault_at (next_page va) pa g) va write ≡ data_abort (wrap (va + i)) write f
+        past-part h =
+            ap (λ (d : Verdict). failed_access d (second_fault_at (next_page va) pa g) va write) h.judged
+            ∙ ap (λ (k : ℕ). data_abort k write g) (at-part i h.at)
+            ∙ ap (λ (x : Fault). data_abort (wrap (va + i)) write x) (sym h.met)
+
+    half-aborts : (abort i : ℕ) (f : Fault) → LowestFails base len va (Ok pa) (Err g) n i f
+        → abort_after part abort ≡ unwrap_or (byte_lies va (Ok pa) (Err g) i) abort
+    half-aborts abort i f l = elim (half-fails i f l) [ inl h ↦ in-part h | inr h ↦ past-part h ]
+      where
+        in-part : HalfIn i f → abort_after part abort ≡ unwrap_or (byte_lies va (Ok pa) (Err g) i) abort
+        in-part h = rw (h.judged, lt-ltb i (in_page va) h.before) refl
+
+        past-part : HalfPast i f → abort_after part abort ≡ unwrap_or (byte_lies va (Ok pa) (Err g) i) abort
+        past-part h =
+            let k : in_page va ≤ i = omega (arith, h.at) in
+            rw (h.judged, le-ltb i (in_page va) k) refl
+
+-- THE RULE
+
+own-address : (va i : ℕ) → va < 2 ^ 64 → i ≡ 0 → va ≡ wrap (va + i)
+own-address va i h e = omega arith
+
+first-stops : (va i : ℕ) (f g : Fault) (write : Bool) → va < 2 ^ 64 → (i ≡ 0) × (f ≡ g) → data_abort va write g ≡ data_abort (wrap (va + i)) write f
+first-stops va i f g write h e =
+    ap (λ (k : ℕ). data_abort k write g) (own-address va i h e.0) ∙ ap (λ (x : Fault). data_abort (wrap (va + i)) write x) (sym e.1)
+
+pub load-fails : LoadFails
+unfolding load_end load_of verdict_of
+load-fails base ram va n (Err g) b last abort i f wide cross l =
+    ap (λ (s : Stop). Err s) (first-stops va i f g false wide (first-fails base (length ram) va n g b i f l))
+load-fails base ram va n (Ok pa) (Err g) last abort i f wide cross l =
+    ap (λ (s : Stop). Err s) (half-stops base (length ram) va n pa g false i f l)
+load-fails base ram va n (Ok pa) (Ok pa2) last abort i f wide cross l =
+    let (judged, met) = both-fail base (length ram) va n pa pa2 i f l in
+    ap (λ (d : Verdict). (loaded_from (Split (pages base (length ram) va n pa pa2)) (got_by d (value_at base ram (Split (pages base (length ram) va n pa pa2)) n)) abort va).answer) judged
+    ∙ ap (λ (x : Fault). Err (data_abort (wrap (va + i)) false x)) (sym met)
+
+pub store-fails : StoreFails
+unfolding store_end verdict_of
+store-fails base ram va n (Err g) b abort i f wide cross l =
+    ap (λ (s : Stop). Err s) (first-stops va i f g true wide (first-fails base (length ram) va n g b i f l))
+store-fails base ram va n (Ok pa) (Err g) abort i f wide cross l =
+    ap (λ (s : Stop). Err s) (half-stops base (length ram) va n pa g true i f l)
+store-fails base ram va n (Ok pa) (Ok pa2) abort i f wide cross l =
+    let (judged, met) = both-fail base (length ram) va n pa pa2 i f l in
+    ap (λ (d : Verdict). (store_end_by d abort va).answer) judged ∙ ap (λ (x : Fault). Err (data_abort (wrap (va + i)) true x)) (sym met)
+
+pub aborts-at : AbortsAt
+unfolding load_end load_of store_end verdict_of
+aborts-at base ram va n (Err g) b last abort i f wide cross l =
+    let at : i ≡ 0 = (first-fails base (length ram) va n g b i f l).0 in
+    let k : i < in_page va = omega arith in
+    let stays : abort ≡ unwrap_or (byte_lies va (Err g) b i) abort = rw (lt-ltb i (in_page va) k) refl in
+    (stays, stays)
+aborts-at base ram va n (Ok pa) (Err g) last abort i f wide cross l =
+    let e = half-aborts base (length ram) va n pa g abort i f l in (e, e)
+aborts-at base ram va n (Ok pa) (Ok pa2) last abort i f wide cross l =
+    let judged = (both-fail base (length ram) va n pa pa2 i f l).0 in
+    let lie = sym (ap (λ (x : Option ℕ). unwrap_or x abort) (both-lie base (length ram) va n pa pa2 i)) in (
+      ap (λ (d : Verdict). (loaded_from (Split (pages base (length ram) va n pa pa2)) (got_by d (value_at base ram (Split (pages base (length ram) va n pa pa2)) n)) abort va).abort_pa) judged ∙ lie,
+      ap (λ (d : Verdict). (store_end_by d abort va).abort_pa) judged ∙ lie,
+    )
+
+-- a page that faults fails at its first byte
+none-first : (base len va n : ℕ) (g : Fault) (b : Answer) → in_page va < n → NoneFails base len va (Err g) b n → ⊥
+none-first base len va n g b cross l =
+    let k : 0 < in_page va = omega arith in
+    let h : ◌≡◌ {A = Option Fault} (Some g) None = rw (lt-ltb 0 (in_page va) k) at (l 0 (omega arith)) in
+    let z : ◌≡◌ {A = ℕ} 0 1 = cc in
+    omega arith
+
+none-second : (base len va n pa : ℕ) (g : Fault) → in_page va < n → NoneFails base len va (Ok pa) (Err g) n → ⊥
+none-second base len va n pa g cross l =
+    let h : ◌≡◌ {A = Option Fault} (Some g) None = sym (half-faults base len va n pa g (in_page va) (omega arith)) ∙ l (in_page va) cross in
+    let z : ◌≡◌ {A = ℕ} 0 1 = cc in
+    omega arith
+
+pub none-aborts : NoneAborts
+unfolding load_end load_of store_end verdict_of
+none-aborts base ram va n (Err g) b last abort cross l = absurd (none-first base (length ram) va n g b cross l)
+none-aborts base ram va n (Ok pa) (Err g) last abort cross l = absurd (none-second base (length ram) va n pa g cross l)
+none-aborts base ram va n (Ok pa) (Ok pa2) last abort cross l =
+    let judged = none-fails base (length ram) va n pa pa2 l in
+    let place = Split (pages base (length ram) va n pa pa2) in (
+      (value_at base ram place n, ap (λ (d : Verdict). (loaded_from place (got_by d (value_at base ram place n)) abort va).answer) judged),
+      ap (λ (d : Verdict). (store_end_by d abort va).answer) judged,
+      ap (λ (d : Verdict). (loaded_from place (got_by d (value_at base ram place n)) abort va).abort_pa) judged,
+      ap (λ (d : Verdict). (store_end_by d abort va).abort_pa) judged,
+    )
+
+pub last-stays : LastStays
+unfolding load_end load_of
+last-stays base ram va n (Err g) b last abort = refl
+last-stays base ram va n (Ok pa) (Err g) last abort = refl
+last-stays base ram va n (Ok pa) (Ok pa2) last abort = go (verdict_of base (length ram) (Split (pages base (length ram) va n pa pa2)) n)
+  where
+    go : (d : Verdict)
+        → (loaded_from (Split (pages base (length ram) va n pa pa2)) (got_by d (value_at base ram (Split (pages base (length ram) va n pa pa2)) n)) abort va).last_pa ≡ pa
+    go (Ok x) = refl
+    go (Err out) = refl
+
+pub half-moves-nothing : HalfMovesNothing
+unfolding store_ram_end
+half-moves-nothing base ram va n v (Ok pa) f = (refl, refl)
+half-moves-nothing base ram va n v (Err g) f = (refl, refl)
+
+-- WHAT CHANGED
+
+pub one-page-stays : OnePageStays
+unfolding load_end store_end
+one-page-stays base ram va n (Ok pa) last abort = (refl, refl)
+one-page-stays base ram va n (Err g) last abort = (refl, refl)
+
+pub crossings-stay : CrossingsStay
+unfolding load_end store_end
+crossings-stay base ram va n (Err g) b last abort inside = (refl, refl)
+crossings-stay base ram va n (Ok pa) (Ok pa2) last abort inside = (refl, refl)
+crossings-stay base ram va n (Ok pa) (Err g) last abort inside =
+    let judged = judged-inside base (length ram) (half base (length ram) va n pa g) (in_page va) (λ j h. rw (lt-ltb j (in_page va) h) (inside pa j g refl refl h)) in (
+      ap (λ (d : Verdict). record { last_pa = last; abort_pa = abort_after d abort; answer = Err (failed_access d (second_fault_at (next_page va) pa g) va false) }) judged,
+      ap (λ (d : Verdict). record { abort_pa = abort_after d abort; answer = Err (failed_access d (second_fault_at (next_page va) pa g) va true) }) judged,
+    )
+
+-- a byte of the first page does not stand where the second begins
+apart : (va k : ℕ) → va < 2 ^ 64 → k < in_page va → wrap (va + k) ≢ next_page va
+apart va k h l e = omega arith
+
+-- a byte of the first page that lies outside is the lowest, or behind one that is
+part-judged : (base len va n pa i : ℕ) (g : Fault) → i < in_page va → within base len 1 (wrap (pa + i)) ≡ false
+    → (k : ℕ) × (k < in_page va) × ((q : ℕ) × (part base len va n pa g ≡ Err (outside_at k q)))
+part-judged base len va n pa i g h out = go (part base len va n pa g) refl
+  where
+    go : (d : Verdict) → part base len va n pa g ≡ d → (k : ℕ) × (k < in_page va) × ((q : ℕ) × (part base len va n pa g ≡ Err (outside_at k q)))
+    go (Ok x) e =
+        absurd (never _ (all-inside base len (half base len va n pa g) 0 (in_page va) e i (omega arith) (omega arith)) (rw (lt-ltb i (in_page va) h) out))
+    go (Err o) e =
+        let last : o.index < 0 + in_page va = (lowest base len (half base len va n pa g) 0 (in_page va) o.index o.pa e).last in
+        (o.index, omega arith, (o.pa, e))
+
+-- two data aborts that are one report one address
+address_of : Stop → ℕ
+address_of s = unwrap_or (stop_address s) 0
+
+same-address : (a b : ℕ) (v w : Bool) (f g : Fault) → ◌≡◌ {A = LoadAnswer} (Err (data_abort a v f)) (Err (data_abort b w g)) → a ≡ b
+unfolding address_of
+same-address a b v w f g e = let s : data_abort a v f ≡ data_abort b w g = cc in ap address_of s
+
+same-store-address : (a b : ℕ) (v w : Bool) (f g : Fault) → ◌≡◌ {A = StoreAnswer} (Err (data_abort a v f)) (Err (data_abort b w g)) → a ≡ b
+unfolding address_of
+same-store-address a b v w f g e = let s : data_abort a v f ≡ data_abort b w g = cc in ap address_of s
+
+pub these-change : TheseChange
+unfolding load_end store_end
+these-change base ram va n pa i g last abort wide h out =
+    let (k, below, (q, judged)) = part-judged base (length ram) va n pa i g h out in (
+      λ e. apart va k wide below (same-address _ _ false false _ _ (sym (ap (λ (d : Verdict). Err (failed_access d (second_fault_at (next_page va) pa g) va false)) judged) ∙ e)),
+      λ e. apart va k wide below (same-store-address _ _ true true _ _ (sym (ap (λ (d : Verdict). Err (failed_access d (second_fault_at (next_page va) pa g) va true)) judged) ∙ e)),
+    )
