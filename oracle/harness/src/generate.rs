@@ -56,7 +56,7 @@ pub struct Generator {
     wrap: bool,
 }
 
-/// A trace of about `n` operations; censuses, the crossing accesses in [`crossing`] and the edge of flat addresses are not
+/// A trace of about `n` operations; censuses, the accesses in [`crossing`] and the edge of flat addresses are not
 /// counted.
 pub fn trace(seed: u64, n: usize, style: Style) -> Vec<Line> {
     let mut g = Generator::new(seed, style);

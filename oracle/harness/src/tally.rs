@@ -53,8 +53,8 @@ pub struct Tally {
     counts: Vec<[u64; CLASSES]>,
     /// Of the operations outside the Rust's domain, which the second model judged; they are in no other number.
     by_model: Vec<[u64; CLASSES]>,
-    /// Of the crossing accesses of which the first page's byte outside RAM comes before the second page's fault; they are
-    /// in no other number.
+    /// Of the crossing accesses of which the first page's byte outside RAM comes before the second page's fault; they
+    /// are in no other number.
     by_order: Vec<[u64; CLASSES]>,
     /// Translations answered by a walk, an entry, a hint, or flat.
     via: [u64; 4],

@@ -1,6 +1,6 @@
-//! Accesses from a page into the next, which mostly is not mapped, at windows that end about there. They have a stream of
-//! random numbers of their own, and leave window and level as they were, so a seed's other lines are as they would be
-//! without them.
+//! Accesses from a page into the next, which mostly is not mapped, at windows that end about there. They have a stream
+//! of random numbers of their own, and leave window and level as they were, so a seed's other lines are as they would
+//! be without them.
 use super::{Generator, Spot};
 use crate::op::{Line, Op};
 
