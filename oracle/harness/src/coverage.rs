@@ -139,7 +139,9 @@ impl Event<'_> {
         };
         let next = (va & !0xFFF).wrapping_add(0x1000);
         let end = match *self.answer {
-            _ if matches!(self.judge, Judge::Crossing(_)) => "external abort before a fault on the second page",
+            _ if matches!(self.judge, Judge::Crossing(_)) => {
+                "external abort before a fault on the second page"
+            }
             Ans::Data(a, _, s) if s != 0x10 && a == next => "fault on the second page",
             Ans::Data(_, _, s) if s != 0x10 => "fault on the first page",
             Ans::Data(a, ..) if a >= next || va.checked_add(size - 1).is_none() && a < va => {

@@ -223,7 +223,10 @@ impl Tally {
 
     /// The same of the operations outside the Rust's domain, each with what judged it.
     pub fn rows_outside(&self) -> impl Iterator<Item = (&'static str, &'static str, u64, String)> + '_ {
-        let judged = [("by the second model", &self.by_model), ("by the order of faults", &self.by_order)];
+        let judged = [
+            ("by the second model", &self.by_model),
+            ("by the order of faults", &self.by_order),
+        ];
         judged.into_iter().flat_map(|(by, counts)| {
             Tally::rows_of(counts).map(move |(kind, n, answers)| (kind, by, n, answers))
         })

@@ -36,11 +36,17 @@ fn judged(after: &str, op: Op) -> Judge {
 fn a_byte_of_the_first_page_comes_first() {
     let at = |va, pa| Judge::Crossing(Outside { va, pa });
     assert_eq!(judged("", Op::Load(0x7FFF_FFFD, 8)), at(0x7FFF_FFFD, 0xBFFF_FFFD));
-    assert_eq!(judged("", Op::Store(0x7FFF_FFF9, 8, 0)), at(0x7FFF_FFFC, 0xBFFF_FFFC));
+    assert_eq!(
+        judged("", Op::Store(0x7FFF_FFF9, 8, 0)),
+        at(0x7FFF_FFFC, 0xBFFF_FFFC)
+    );
     assert_eq!(judged("", Op::Load(0x7FFF_FFFF, 2)), at(0x7FFF_FFFF, 0xBFFF_FFFF));
     // By a hint, with its table out of RAM.
     let hinted = "tr 1 7ffff000\nreg c100 c0000000";
-    assert_eq!(judged(hinted, Op::Load(0x7FFF_FFFF, 8)), at(0x7FFF_FFFF, 0xBFFF_FFFF));
+    assert_eq!(
+        judged(hinted, Op::Load(0x7FFF_FFFF, 8)),
+        at(0x7FFF_FFFF, 0xBFFF_FFFF)
+    );
 }
 
 #[test]
@@ -55,9 +61,15 @@ fn all_else_stays_with_the_rust() {
     // Both pages translate, and all bytes of the first are outside, or only the second page's.
     let both = "poke bfff8010 40000401";
     assert_eq!(judged(both, Op::Load(0x7FFF_FFFE, 8)), Judge::Rust);
-    assert_eq!(judged(&format!("{both}\nwindow bfff8000 8000"), Op::Load(0x7FFF_FFFE, 8)), Judge::Rust);
+    assert_eq!(
+        judged(&format!("{both}\nwindow bfff8000 8000"), Op::Load(0x7FFF_FFFE, 8)),
+        Judge::Rust
+    );
     // The second page faults, and the first page's bytes are inside; stage 1 is off; a level that there is not.
-    assert_eq!(judged("window bfff8000 8000", Op::Load(0x7FFF_FFFE, 8)), Judge::Rust);
+    assert_eq!(
+        judged("window bfff8000 8000", Op::Load(0x7FFF_FFFE, 8)),
+        Judge::Rust
+    );
     assert_eq!(judged("reg c080 0", Op::Load(0x7FFF_FFFE, 8)), Judge::Rust);
     assert_eq!(judged("p-level 4", Op::Load(0x7FFF_FFFE, 8)), Judge::Rust);
 }

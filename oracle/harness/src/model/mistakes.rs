@@ -165,10 +165,7 @@ pub const MISTAKES: [(Mistake, &str); 65] = [
         CrossingOldOrder,
         "the second page's fault before the first page's byte outside",
     ),
-    (
-        CrossingKeepsAbortPa,
-        "abort_pa kept where the second page faults",
-    ),
+    (CrossingKeepsAbortPa, "abort_pa kept where the second page faults"),
     (
         CrossingSetsLastPa,
         "last_pa set by a load whose second page faults",
