@@ -242,13 +242,14 @@ uint64_t a72_data_pa(a72_core *core, uint64_t va, uint64_t *ans, uint64_t base, 
 uint64_t a72_fetch_pa(a72_core *core, uint64_t va, uint64_t *ans, uint64_t base, const uint8_t *ram,
                       size_t len);
 
-/* `size` bytes (1, 2, 4, 8) at `va`, zero-extended, in *ans. Of a fault *ans has the address, which may lie in the
- * second page of two. */
+/* `size` bytes (1, 2, 4, 8) at `va`, zero-extended, in *ans. Of a fault *ans has the address: `va`, but of an access
+ * over two pages the lowest failing byte's. The first page's bytes outside RAM come before a fault of the second. */
 uint64_t a72_load(a72_core *core, uint64_t va, uint64_t size, uint64_t *ans, uint64_t base,
                   const uint8_t *ram, size_t len);
 
 /* The low `size` bytes of `value` to `va`. Of a fault *ans has the address; otherwise *ans stays. Both pages are
- * translated before a byte is written. */
+ * translated before a byte is written. Of an access over two pages the address is the lowest failing byte's: the first
+ * page's bytes outside RAM come before a fault of the second. */
 uint64_t a72_store(a72_core *core, uint64_t va, uint64_t size, uint64_t value, uint64_t *ans,
                    uint64_t base, uint8_t *ram, size_t len);
 

@@ -194,7 +194,7 @@ def access_class(s, differ):
     if isv_gone is not None and isv_gone == s.t[2]["ESR2"] and differ == ["ESR2"]:
         return "isv"
     if va & 0xFFF > 0xFF8 and kind in ("ld", "ldt") and (isv_gone or esr) & 63 == 0x10 and far == va & ~7:
-        return "split-far" if s.t_reg("ESR") & 63 == 0x10 else "split-order"
+        return "split-far"
     return UNEXPLAINED
 
 

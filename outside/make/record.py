@@ -3,8 +3,9 @@
 
 A case is the lines of vec2trace.py, without those that would change nothing, between `case` and `end`; what is due
 after '#=' becomes `answer` and `due` lines, and a marked line's outside answer `other` lines. A line whose class the library
-follows is held to its outside answer, and another marked line with stage 1 off and a large address to an address size fault of
-level 0. --check writes nothing; the status is 1 where a file is not what would be written.
+follows is held to its outside answer, another marked line with stage 1 off and a large address to an address size fault of
+level 0, and a load over two pages whose second page faults on the Rust to the first page's external abort. --check writes
+nothing; the status is 1 where a file is not what would be written.
 """
 import struct
 import sys
@@ -201,9 +202,19 @@ def is_large(left):
     return case["va"] >> 44 & (0xFFF if case["tcr"] >> tbi & 1 else 0xFFFFF) != 0
 
 
+def by_first_byte(case, answer):
+    """The Rust's answer to a load over two pages that ends in an external abort in QEMU. Where it is the second page's fault, the
+    first page lies outside RAM whole, as the window ends with a page: with its first byte's abort."""
+    esr, far = (fields(answer)[name] for name in ("esr", "far"))
+    if esr & 63 == 0x10:
+        return answer
+    return answer.replace("esr=%x far=%x" % (esr, far), "esr=%x far=%x" % (esr & ~63 | 0x10, parse(case)["va"]))
+
+
 def as_followed(line):
-    """The line as the library is held to it: with an address size fault of level 0 in place of the Rust's answer with stage 1 off. In a
-    class that the library follows the mark goes, or is what is left of the difference: QEMU's ISV."""
+    """The line as the library is held to it: with an address size fault of level 0 in place of the Rust's answer with stage 1 off, and
+    of a load over two pages with the external abort of its first byte in place of the second page's fault. In a class that the
+    library follows the mark goes, or is what is left of the difference: QEMU's ISV."""
     left, found, mark = line.partition(" # differ: ")
     classes, _, answer = mark.partition("; rust ")
     case, _, outside = left.partition(" => ")
@@ -214,6 +225,8 @@ def as_followed(line):
         classes = "isv" if classes in FOLLOWED else classes
     elif found and classes in FOLLOWED:
         answer = outside
+    elif classes == "split-far":
+        answer = by_first_byte(case, answer)
     return left if not found or answer == outside else "%s # differ: %s; rust %s" % (left, classes, answer)
 
 

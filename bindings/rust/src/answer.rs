@@ -41,7 +41,8 @@ impl Check {
 pub struct Fault {
     /// What the access wanted.
     pub access: Access,
-    /// The virtual address that faulted: of an access over two pages it may lie in the second.
+    /// The virtual address that faulted: of an access over two pages the lowest failing byte's. The first page's bytes
+    /// outside RAM come before a fault of the second.
     pub address: u64,
     /// The status.
     pub status: Status,

@@ -131,6 +131,24 @@ fn a_split_store_that_faults_writes_nothing() {
     assert_eq!(core.load(&ram, 0x1FFC, Width::Double), Ok(0x8877_6655_4433_2211));
 }
 
+/// Page 6 is not mapped.
+#[test]
+fn the_lowest_failing_byte_of_two_pages_is_reported() {
+    let mut bytes = bytes();
+    let mut ram = Ram::new(BASE, &mut bytes);
+    let mut core = core();
+    let load = core.load(&ram, 0x5FFD, Width::Double);
+    assert_eq!(load, Err(fault(Access::Read, 0x6000, 0x07)));
+    // Page 5 outside RAM.
+    ram.write_u64(BASE + 0x3028, 0x8000_0000 | 0x403);
+    core.system(&mut ram, SystemOperation::TLBI_VMALLE1).unwrap();
+    let load = core.load(&ram, 0x5FFD, Width::Double);
+    assert_eq!(load, Err(fault(Access::Read, 0x5FFD, 0x10)));
+    assert_eq!((core.abort_pa(), core.last_pa()), (0x8000_0FFD, 0));
+    let store = core.store(&mut ram, 0x5FFF, Width::Word, 1);
+    assert_eq!(store, Err(fault(Access::Write, 0x5FFF, 0x10)));
+}
+
 #[test]
 fn a_tlbi_is_needed_and_enough() {
     let mut bytes = bytes();

@@ -112,7 +112,7 @@ const ANSWERS: [&str; 8] = [
     "counts",
 ];
 
-const CLASSES: [&str; 26] = [
+const CLASSES: [&str; 25] = [
     "agree",
     "A1 walk-abort-taken",
     "A2 el2-needs-ns",
@@ -131,7 +131,6 @@ const CLASSES: [&str; 26] = [
     "M2 sif",
     "M5 ee-data",
     "B1 tsz-fault",
-    "B2 split-order",
     "C1 block-anywhere",
     "C2 tge-walks",
     "C3 dc-nstable",

@@ -137,8 +137,8 @@ impl Args {
         self.foreign_core().unwrap_or_else(|| model())
     }
 
-    /// One core alone that does what ought to be done: the Rust in its domain and the model outside it, the model, or the one
-    /// behind the C boundary.
+    /// One core alone that does what ought to be done: the Rust in its domain and what stands in its place outside it,
+    /// the model, or the one behind the C boundary.
     pub fn right_core(&self) -> Box<dyn Core> {
         if self.flag("--model") || self.flag("--c") || self.flag("--each") {
             self.one_core()

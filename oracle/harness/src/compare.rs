@@ -1,11 +1,11 @@
-//! Two cores side by side, the Rust and another: answer, whole state and RAM after every operation. What leaves the Rust's
-//! domain is judged by the second model.
+//! Two cores side by side, the Rust and another: answer, whole state and RAM after every operation. What leaves the
+//! Rust's domain goes as [`domain`] has it.
 use crate::domain::{self, Judge};
 use crate::op::{Ans, Line, Op};
 use crate::rust::RustCore;
 use crate::{feed, Core, Ram, State};
 
-/// An operation that the Rust, or the second model in its place, has just carried out.
+/// An operation that the Rust, or what stands in its place, has just carried out.
 pub struct Step<'a> {
     pub op: &'a Op,
     pub answer: &'a Ans,

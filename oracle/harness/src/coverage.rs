@@ -1,5 +1,6 @@
 //! What a trace shows beyond operations and their answers: the places where ports go wrong, by name.
 use crate::census::ends;
+use crate::domain::Judge;
 use crate::op::{Ans, Op};
 use crate::rust::RustCore;
 use crate::{Core, Ram, State};
@@ -13,6 +14,7 @@ pub struct Event<'a> {
     pub before: &'a State,
     pub after: &'a RustCore,
     pub ram: &'a Ram,
+    pub judge: Judge,
 }
 
 fn exception(e: &Exception) -> &'static str {
@@ -137,6 +139,9 @@ impl Event<'_> {
         };
         let next = (va & !0xFFF).wrapping_add(0x1000);
         let end = match *self.answer {
+            _ if matches!(self.judge, Judge::Crossing(_)) => {
+                "external abort before a fault on the second page"
+            }
             Ans::Data(a, _, s) if s != 0x10 && a == next => "fault on the second page",
             Ans::Data(_, _, s) if s != 0x10 => "fault on the first page",
             Ans::Data(a, ..) if a >= next || va.checked_add(size - 1).is_none() && a < va => {

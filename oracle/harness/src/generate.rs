@@ -2,6 +2,7 @@
 mod actions;
 mod address;
 mod census;
+mod crossing;
 mod flat;
 pub mod keys;
 mod registers;
@@ -32,6 +33,8 @@ pub struct Generator {
     r: Rng,
     /// For censuses.
     aside: Rng,
+    /// For crossing accesses.
+    across: Rng,
     lines: Vec<Line>,
     style: Style,
     /// The descriptors written, by address.
@@ -53,7 +56,8 @@ pub struct Generator {
     wrap: bool,
 }
 
-/// A trace of about `n` operations, censuses and the edge of flat addresses not counted.
+/// A trace of about `n` operations; censuses, the accesses in [`crossing`] and the edge of flat addresses are not
+/// counted.
 pub fn trace(seed: u64, n: usize, style: Style) -> Vec<Line> {
     let mut g = Generator::new(seed, style);
     let mut ops = 0;
@@ -66,6 +70,7 @@ pub fn trace(seed: u64, n: usize, style: Style) -> Vec<Line> {
             g.action();
             let counts = |l: &&Line| matches!(l, Line::Op(op) if !matches!(op, Op::Census(..)));
             ops += g.lines[before..].iter().filter(counts).count();
+            g.cross();
         }
     }
     g.flat_edge(seed);
@@ -77,6 +82,7 @@ impl Generator {
         Generator {
             r: Rng::new(seed),
             aside: Rng::new(!seed),
+            across: Rng::new(seed.rotate_left(32) ^ 11),
             lines: Vec::new(),
             style,
             mem: BTreeMap::new(),

@@ -45,7 +45,7 @@ pub use state::State;
 
 /// One core under the scope's operations. Three stand here: pimu's Rust ([`rust::RustCore`]), a model written
 /// from the scope's words ([`model::DocCore`]), and whatever is behind the C boundary ([`ffi::CCore`]). What a core ought
-/// to do is the Rust's in its domain and the model's outside it ([`domain`]).
+/// to do is the Rust's in its domain; [`domain`] says what stands in its place outside it.
 pub trait Core {
     /// Become a fresh core, the one `Cpu::new` gives.
     fn reset(&mut self);

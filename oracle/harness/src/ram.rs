@@ -154,3 +154,16 @@ impl Memory for Ram {
             .ok_or(Abort { addr, write: true })
     }
 }
+
+/// RAM that is looked at alone: a write through it fails.
+pub struct View<'a>(pub &'a Ram);
+
+impl Memory for View<'_> {
+    fn read(&mut self, addr: u64, size: u32) -> Result<u64, Abort> {
+        self.0.get(addr, size).ok_or(Abort { addr, write: false })
+    }
+
+    fn write(&mut self, addr: u64, _: u32, _: u64) -> Result<(), Abort> {
+        Err(Abort { addr, write: true })
+    }
+}

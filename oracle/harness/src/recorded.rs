@@ -74,7 +74,8 @@ struct Recorder<'a> {
     ram: Ram,
     words: Vec<u64>,
     operations: u64,
-    by_model: u64,
+    /// Operations outside the Rust's domain.
+    outside: u64,
     longest: u64,
     shown: &'a mut Shown,
 }
@@ -89,7 +90,7 @@ impl Recorder<'_> {
             return;
         };
         self.operations += 1;
-        self.by_model += (judge == Judge::Model) as u64;
+        self.outside += (judge != Judge::Rust) as u64;
         self.words.extend(encode_answer(&answer));
         self.words.extend(summary(&self.rust.state(), self.ram.digest()));
         self.show(op, &answer, &before, judge);
@@ -111,6 +112,7 @@ impl Recorder<'_> {
             before,
             after: rust,
             ram,
+            judge,
         })
         .names()
         {
@@ -132,14 +134,14 @@ pub fn record(lines: &[Line], shown: &mut Shown) -> Vec<u8> {
         ram: Ram::default(),
         words: Vec::new(),
         operations: 0,
-        by_model: 0,
+        outside: 0,
         longest: 0,
         shown,
     };
     lines.iter().for_each(|l| r.line(l));
     let all = 8 + r.words.len() as u64;
     let (lines, line) = (lines.len() as u64, LINE as u64);
-    let header = [MAGIC, all, lines, r.operations, r.longest, 0, line, r.by_model];
+    let header = [MAGIC, all, lines, r.operations, r.longest, 0, line, r.outside];
     header
         .into_iter()
         .chain(r.words)

@@ -53,6 +53,9 @@ pub struct Tally {
     counts: Vec<[u64; CLASSES]>,
     /// Of the operations outside the Rust's domain, which the second model judged; they are in no other number.
     by_model: Vec<[u64; CLASSES]>,
+    /// Of the crossing accesses of which the first page's byte outside RAM comes before the second page's fault; they
+    /// are in no other number.
+    by_order: Vec<[u64; CLASSES]>,
     /// Translations answered by a walk, an entry, a hint, or flat.
     via: [u64; 4],
     /// Operations that counted hits and those that counted walks, by level; last those at EL1 while unprivileged, which
@@ -68,6 +71,7 @@ impl Default for Tally {
         Tally {
             counts: vec![[0; CLASSES]; KINDS.len()],
             by_model: vec![[0; CLASSES]; KINDS.len()],
+            by_order: vec![[0; CLASSES]; KINDS.len()],
             via: [0; 4],
             by_level: [[0; 2]; 5],
             operations: 0,
@@ -148,12 +152,16 @@ impl Tally {
             self.left_out += 1;
             return;
         }
-        if step.judge == Judge::Model {
-            self.by_model[kind(step.op)][class(step)] += 1;
+        let counts = match step.judge {
+            Judge::Rust => &mut self.counts,
+            Judge::Model => &mut self.by_model,
+            Judge::Crossing(_) => &mut self.by_order,
+        };
+        counts[kind(step.op)][class(step)] += 1;
+        if step.judge != Judge::Rust {
             return;
         }
         self.operations += 1;
-        self.counts[kind(step.op)][class(step)] += 1;
         self.note_level(step);
         if let (Op::Translate(..), Ans::Val(_)) = (step.op, step.answer) {
             let t = &step.rust.cpu.tlb;
@@ -184,9 +192,9 @@ impl Tally {
 
     /// Another tally's numbers, too.
     pub fn add(&mut self, other: &Tally) {
-        let (mine, theirs) = (self.counts.iter_mut(), other.counts.iter());
-        let (models, others) = (self.by_model.iter_mut(), other.by_model.iter());
-        for (mine, theirs) in mine.chain(models).zip(theirs.chain(others)) {
+        let mine = [&mut self.counts, &mut self.by_model, &mut self.by_order];
+        let theirs = [&other.counts, &other.by_model, &other.by_order];
+        for (mine, theirs) in mine.into_iter().flatten().zip(theirs.into_iter().flatten()) {
             mine.iter_mut().zip(theirs).for_each(|(a, b)| *a += b);
         }
         self.via.iter_mut().zip(other.via).for_each(|(a, b)| *a += b);
@@ -203,14 +211,25 @@ impl Tally {
         self.by_model.iter().flatten().sum()
     }
 
+    /// How many crossing accesses went by the order of the two pages' faults.
+    pub fn by_order(&self) -> u64 {
+        self.by_order.iter().flatten().sum()
+    }
+
     /// Rows of operation, number, and answers with their numbers, by name.
     pub fn rows(&self) -> impl Iterator<Item = (&'static str, u64, String)> + '_ {
         Tally::rows_of(&self.counts)
     }
 
-    /// The same of the operations that the second model judged.
-    pub fn rows_by_model(&self) -> impl Iterator<Item = (&'static str, u64, String)> + '_ {
-        Tally::rows_of(&self.by_model)
+    /// The same of the operations outside the Rust's domain, each with what judged it.
+    pub fn rows_outside(&self) -> impl Iterator<Item = (&'static str, &'static str, u64, String)> + '_ {
+        let judged = [
+            ("by the second model", &self.by_model),
+            ("by the order of faults", &self.by_order),
+        ];
+        judged.into_iter().flat_map(|(by, counts)| {
+            Tally::rows_of(counts).map(move |(kind, n, answers)| (kind, by, n, answers))
+        })
     }
 
     fn rows_of(counts: &[[u64; CLASSES]]) -> impl Iterator<Item = (&'static str, u64, String)> + '_ {
@@ -247,8 +266,8 @@ impl Display for Tally {
         for (kind, n, answers) in self.rows() {
             writeln!(f, "{kind:10} {n:8}  {answers}")?;
         }
-        for (kind, n, answers) in self.rows_by_model() {
-            writeln!(f, "{kind:10} {n:8}  {answers}; by the second model")?;
+        for (kind, by, n, answers) in self.rows_outside() {
+            writeln!(f, "{kind:10} {n:8}  {answers}; {by}")?;
         }
         writeln!(f, "{}", self.sources())?;
         writeln!(f, "{}", self.levels())?;

@@ -39,11 +39,12 @@ fn held(name: &str, expectations: usize) {
 #[test]
 fn expectations_hold() {
     held("cases.trace", 14);
-    held("rules.trace", 109);
+    held("rules.trace", 110);
     held("leaves.trace", 81);
     held("pokes.trace", 30);
     held("census.trace", 121);
     held("flat.trace", 67);
+    held("crossing.trace", 78);
     held("levels.trace", 94);
 }
 

@@ -46,6 +46,22 @@ fn walk(levels: usize) -> Scene {
     Scene { levels, ..scene() }
 }
 
+/// The first page by its hint, inside RAM; the walk of the second ends without a page.
+fn second_page_faults() -> Vec<Case> {
+    let across = [page(PAGE) | 0xFFC, page(PAGE) | 0xFF9];
+    let hole = Scene {
+        hole: Some(PAGE + 1),
+        ..scene()
+    };
+    vec![case(
+        "load 8: split, second page faults",
+        None,
+        Work::Load(8),
+        across,
+        hole,
+    )]
+}
+
 /// Translations again, under the bars of a core that was lent by reference inside the library.
 fn lent() -> Vec<Case> {
     let here = [page(PAGE), page(PAGE) | 8];
@@ -69,6 +85,7 @@ pub fn cases() -> Vec<Case> {
         settings(),
         censuses(),
         lent(),
+        second_page_faults(),
     ]
     .into_iter()
     .flatten()

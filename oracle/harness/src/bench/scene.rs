@@ -39,6 +39,8 @@ pub struct Scene {
     pub level: u32,
     /// Whether stage 1 is on.
     pub on: bool,
+    /// A page that is not mapped, with each one whose number ends alike.
+    pub hole: Option<u64>,
     /// Whether all 1,024 entries are live.
     pub full: bool,
     /// X0 and X1.
@@ -58,6 +60,7 @@ impl Default for Scene {
             leaf: GLOBAL,
             level: 1,
             on: true,
+            hole: None,
             full: false,
             x: [PAGE << 12, PAGE << 12 | 8],
         }
@@ -75,6 +78,7 @@ impl Scene {
             }
             let leaf = match (self.leaf, self.levels) {
                 (NOTHING, _) => 0,
+                _ if self.hole.is_some_and(|page| page % 512 == i) => 0,
                 // A block of 2 MiB.
                 (bits, 2) => (BASE + ((i % 32) << 21)) | (bits & !2),
                 (bits, _) => (BASE + (i << 12)) | bits,

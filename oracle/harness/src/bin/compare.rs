@@ -11,9 +11,10 @@ const USAGE: &str = "compare [--c | --each | --mistake M] TRACE..
        compare [--c | --each | --mistake M] --seeds FROM TO N [--strict | --wild] [--jobs J]
   The Rust beside the model (--c: the core behind the C boundary; --each: the same by its function for each
   operation; --mistake: the model with that mistake), on traces or on those of the seeds FROM to TO - 1 with about N
-  operations each, J seeds at a time. An operation outside the Rust's domain is judged by
-  the model. Stops at the first operation after which answer, state or RAM differ. Shows how
-  often each operation gave each answer. Status 1 where they differ, or no operation was compared.";
+  operations each, J seeds at a time. A flat address from 2^44 on is judged by the model, an access over two pages of
+  which the first page's abort comes before the second page's fault by the Rust with that answer in its place.
+  Stops at the first operation after which answer, state or RAM differ. Shows how often each operation gave each
+  answer. Status 1 where they differ, or no operation was compared.";
 
 /// Lines with their numbers in the trace.
 type Numbered = Vec<(usize, Line)>;
@@ -77,6 +78,8 @@ fn main() {
     };
     let (said, good) = verdict(tally.operations, equal, ["all equal", "DIFFERENT"]);
     print!("{tally}");
-    println!("{} operations, {} by the second model, {said}", tally.operations, tally.by_model());
+    let (model, order) = (tally.by_model(), tally.by_order());
+    let all = tally.operations;
+    println!("{all} operations, {model} by the second model, {order} by the order of faults, {said}");
     finish(good)
 }

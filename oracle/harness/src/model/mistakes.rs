@@ -60,12 +60,19 @@ pub enum Mistake {
     FlatFaultDropsHint,
     FlatHintOfRawPage,
     FlatUntaggedByEl1,
+    CrossingOldOrder,
+    CrossingKeepsAbortPa,
+    CrossingSetsLastPa,
+    CrossingWritesBefore,
+    CrossingFirstByteAlone,
+    CrossingJudgesAll,
+    CrossingStopsAtFirst,
 }
 
 use Mistake::*;
 
 /// Each mistake with what it does, by number from 1.
-pub const MISTAKES: [(Mistake, &str); 58] = [
+pub const MISTAKES: [(Mistake, &str); 65] = [
     (FlagBeforeSize, "access flag judged before the output size"),
     (
         PageDropsOnePage,
@@ -154,4 +161,29 @@ pub const MISTAKES: [(Mistake, &str); 58] = [
     (FlatFaultDropsHint, "a flat fault drops the hint of its slot"),
     (FlatHintOfRawPage, "the hint of a flat address is of the raw page"),
     (FlatUntaggedByEl1, "the tag of a flat address goes by EL1&0's TCR"),
+    (
+        CrossingOldOrder,
+        "the second page's fault before the first page's byte outside",
+    ),
+    (CrossingKeepsAbortPa, "abort_pa kept where the second page faults"),
+    (
+        CrossingSetsLastPa,
+        "last_pa set by a load whose second page faults",
+    ),
+    (
+        CrossingWritesBefore,
+        "first page's bytes before the one outside written, though the second page faults",
+    ),
+    (
+        CrossingFirstByteAlone,
+        "of the first page's bytes the first alone looked at where the second page faults",
+    ),
+    (
+        CrossingJudgesAll,
+        "all bytes of an access looked for on the first page where the second faults",
+    ),
+    (
+        CrossingStopsAtFirst,
+        "second page not translated where a byte of the first is outside",
+    ),
 ];

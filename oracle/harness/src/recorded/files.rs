@@ -97,8 +97,8 @@ fn table(shown: &Shown) -> String {
     for (kind, n, answers) in shown.tally.rows() {
         let _ = writeln!(s, "| {kind} | {n} | {answers} |");
     }
-    for (kind, n, answers) in shown.tally.rows_by_model() {
-        let _ = writeln!(s, "| {kind}, by the second model | {n} | {answers} |");
+    for (kind, by, n, answers) in shown.tally.rows_outside() {
+        let _ = writeln!(s, "| {kind}, {by} | {n} | {answers} |");
     }
     let _ = writeln!(
         s,

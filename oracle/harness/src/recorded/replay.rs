@@ -12,8 +12,8 @@ fn words(bytes: &[u8]) -> Result<Vec<u64>, String> {
         .collect();
     let whole = |n: u64| n as usize == words.len() && 8 * words.len() == bytes.len();
     match words.get(..8) {
-        Some(&[MAGIC, n, _, operations, .., line, by_model])
-            if whole(n) && line == LINE as u64 && by_model <= operations =>
+        Some(&[MAGIC, n, _, operations, .., line, outside])
+            if whole(n) && line == LINE as u64 && outside <= operations =>
         {
             Ok(words)
         }
