@@ -57,32 +57,41 @@
 //! assert_eq!(core.register(registers::ESR_EL1), Some(0x25 << 26 | 1 << 25 | 1 << 6 | 0x0F));
 //! # Ok::<(), Stop>(())
 //! ```
-#![deny(unsafe_code)]
+#![no_std]
+#![forbid(unsafe_code)]
 #![warn(missing_docs)]
+
+#[cfg(feature = "std")]
+extern crate std;
+
 mod answer;
+#[cfg(feature = "std")]
+mod boxed;
 mod census;
 mod core;
-mod count;
-mod edit;
-// `count`, `held`, `library`, `number` and `place` are the oracle's too, and it uses all of them.
-mod held;
-#[allow(dead_code)]
-mod library;
-#[allow(dead_code)]
-mod number;
+pub mod count;
+mod memory;
+pub mod number;
 mod operation;
 pub mod place;
 mod ram;
-mod raw;
 pub mod registers;
+#[allow(missing_docs)]
+pub mod stage1;
+mod system_operation;
 mod view;
+mod walk;
 
+pub use crate::core::Core;
 pub use answer::{Check, Fault, Stop};
+#[cfg(feature = "std")]
+pub use boxed::Edit;
 pub use census::{Census, Rights};
-pub use core::Core;
 pub use count::MOST_PAGES;
-pub use edit::Edit;
-pub use operation::{Access, Exception, Status, SystemOperation, Width};
+pub use memory::Memory;
+pub use operation::{Access, Exception, Level, Status, Width};
 pub use place::WORDS;
 pub use ram::Ram;
-pub use view::{Broadcast, Counters, Entry, FetchHint, Hint, LevelCounters};
+pub use system_operation::SystemOperation;
+pub use view::{Broadcast, Counters, Entry, FetchHint, Flags, Hint, LevelCounters};
+pub use walk::{Mapping, Walk};

@@ -31,7 +31,7 @@ pub mod wild;
 #[path = "../../../bindings/rust/src/count.rs"]
 pub mod count;
 #[allow(dead_code)]
-#[path = "../../../bindings/rust/src/library.rs"]
+#[path = "../../../bindings/rust-archive/src/library.rs"]
 mod library;
 #[path = "../../../bindings/rust/src/number.rs"]
 pub mod number;
