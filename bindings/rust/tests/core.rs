@@ -2,10 +2,10 @@
 mod common;
 
 use a72::{
-    Access, Broadcast, Check, Core, Exception, Fault, FetchHint, Hint, Ram, Rights, Status, Stop,
-    SystemOperation, WORDS, Width, place, registers,
+    place, registers, Access, Broadcast, Check, Core, Exception, Fault, FetchHint, Hint, Ram, Rights, Status,
+    Stop, SystemOperation, Width, WORDS,
 };
-use common::{BASE, bytes, core};
+use common::{bytes, core, BASE};
 
 fn fault(access: Access, address: u64, status: u8) -> Stop {
     Stop::Fault(Fault {
