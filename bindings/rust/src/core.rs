@@ -94,23 +94,8 @@ impl Core {
     /// Where a data read of `va` would go; `None` where it would fault.
     #[inline(always)]
     pub fn data_pa(&mut self, ram: &Ram, va: u64) -> Result<Option<u64>, Stop> {
-        match hint::served(
-            &self.core,
-            va,
-            Access::Read as u64,
-            ram.base,
-            ram.bytes.len() as u64,
-        ) {
-            Some(pa) => Ok(Some(pa)),
-            None => self.data_pa_past_hint(ram, va),
-        }
-    }
-
-    // The same of `quick::translation::data_pa`.
-    #[inline(never)]
-    fn data_pa_past_hint(&mut self, ram: &Ram, va: u64) -> Result<Option<u64>, Stop> {
         let mut pa = 0;
-        match translation::data_rest(&mut self.core, va, &mut pa, ram.base, ram.bytes) {
+        match translation::data_pa(&mut self.core, va, &mut pa, ram.base, ram.bytes) {
             DONE => Ok(Some(pa)),
             FAULT.. => Ok(None),
             n => Err(Stop::of(n, Access::Read, va)),

@@ -108,7 +108,7 @@ fn rest<P: Purpose, const TELLS: bool>(
 }
 
 #[inline(never)]
-pub(crate) fn data_rest(core: &mut Core, va: u64, ans: &mut u64, base: u64, ram: &[u8]) -> u64 {
+fn data_rest(core: &mut Core, va: u64, ans: &mut u64, base: u64, ram: &[u8]) -> u64 {
     rest::<Reading, false>(core, va, ans, base, ram)
 }
 
