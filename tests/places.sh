@@ -1,6 +1,6 @@
 #!/bin/sh
 # The C interface is one wherever it is written: the places of a saved core's words, the memory of a core, the numbers that the functions give, the counts of
-# a census, the keys of the registers, and each function's parameters. Compares the library (crates/), include/a72.h and bindings/rust/src, line by line. Wants nothing.
+# a census, the keys of the registers, the system operations, and each function's parameters. Compares the library (crates/), include/a72.h, bindings/rust/src and bindings/rust-archive/src, line by line. Wants nothing.
 # Its last line is 'N lines are one in all tables'; where two differ it names both and the place, and ends with 1.
 set -eu
 cd "$(dirname "$0")/.."
@@ -58,8 +58,8 @@ sed -n 's/^const _: () = prove!(\(.*\)_of::<\(.*\)>() == \([0-9]*\));$/\1 \2 \3/
         print "HANDLE_SIZE", of["size Handle"]
     }' | table crates/core_static/src/state.rt
 awk '/^#define A72_(CORE_SIZE|CORE_ALIGN|HANDLE_SIZE) [0-9]+$/ { sub("A72_", "", $2); print $2, $3 }' $header | table $header
-awk "$constants" bindings/rust/src/held.rs | table bindings/rust/src/held.rs
-for other in $header bindings/rust/src/held.rs; do one memory crates/core_static/src/state.rt "$other"; done
+awk "$constants" bindings/rust-archive/src/held.rs | table bindings/rust-archive/src/held.rs
+for other in $header bindings/rust-archive/src/held.rs; do one memory crates/core_static/src/state.rt "$other"; done
 
 # Numbers that the functions give: those of bindings/rust/src/number.rs, and of the checks by their order in answer.rs.
 awk "$constants" bindings/rust/src/number.rs | table bindings/rust/src/number.rs
@@ -82,10 +82,16 @@ awk '/^    [A-Z0-9_]+ [0-9]+ [0-9]+ [0-9]+ [0-9]+, place::/ { sub(",", "", $5); 
 sed -n 's/^#define A72_\([A-Z0-9_]*\) A72_KEY(\(.*\))$/\1 \2/p' $header | tr -d , | table $header
 one key bindings/rust/src/registers.rs $header
 
+# System operations: NAME OP1 CRN CRM OP2.
+sed -n 's/^    [A-Za-z0-9_]*, "\([A-Z]*\) \([A-Z0-9]*\)": \([0-9 ]*\);$/\1_\2 \3/p' bindings/rust/src/system_operation.rs |
+    table bindings/rust/src/system_operation.rs
+sed -n 's/^#define A72_\([A-Z]*_[A-Z0-9]*\) \([0-9]*, [0-9]*, [0-9]*, [0-9]*\)$/\1 \2/p' $header | tr -d , | table $header
+one operation bindings/rust/src/system_operation.rs $header
+
 # Functions, sorted: NAME, then each parameter as a C type without its name; `-` where nothing is given back.
 awk -f tools/functions.awk crates/core_static/src/*.rt | sort | table crates/core_static/src/all
 sed "s/A72_COUNTS]/$counts]/" $header | awk -f tools/functions.awk | sort | table $header
-awk -f tools/functions.awk bindings/rust/src/library.rs | sort | table bindings/rust/src/library.rs
-for other in $header bindings/rust/src/library.rs; do one function crates/core_static/src/all "$other"; done
+awk -f tools/functions.awk bindings/rust-archive/src/library.rs | sort | table bindings/rust-archive/src/library.rs
+for other in $header bindings/rust-archive/src/library.rs; do one function crates/core_static/src/all "$other"; done
 
 echo "$lines lines are one in all tables"

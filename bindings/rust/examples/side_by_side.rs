@@ -3,7 +3,7 @@ use a72::{Access, Core, Exception, Ram, Status, Stop, SystemOperation};
 use harness::census::{COUNTS, FLAT, RIGHTS, STATUS};
 use harness::ffi::{exception, state_of};
 use harness::rust::RustCore;
-use harness::{feed, Ans, Core as _, Line, Op};
+use harness::{Ans, Core as _, Line, Op, feed};
 
 /// The format is that of the oracle's traces: numbers hexadecimal, `#` starts a comment.
 const TRACE: &str = "
@@ -98,8 +98,8 @@ fn step(core: &mut Core, ram: &mut Ram, op: &Op) -> Option<Ans> {
             done(core.system(ram, SystemOperation::new(op1, crn, crm, op2, rt)))
         }
         Op::Census(first, pages) => census(core, ram, first, pages),
-        Op::Reg(key, v) => done(core.write_register(key.into(), v)),
-        Op::Level(level) => done(core.set_level(level.into())),
+        Op::Reg(key, v) => done(core.write_register(u64::from(key), v)),
+        Op::Level(level) => done(core.set_level(u64::from(level))),
         Op::Mark(on) => done(core.set_unprivileged(on)),
         Op::SetX(number, v) => done(core.set_general(number.into(), v)),
         Op::Abort(e) => match exception(&e) {

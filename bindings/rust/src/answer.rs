@@ -1,7 +1,7 @@
 //! What stops an operation.
-use crate::number::{status, UNDEFINED, UNIMPLEMENTED};
+use crate::number::{UNDEFINED, UNIMPLEMENTED, status};
 use crate::operation::{Access, Exception, Status};
-use std::fmt::{self, Display, Formatter};
+use core::fmt::{self, Display, Formatter};
 
 /// A check that a call missed. The call changed nothing.
 #[derive(Clone, Copy, Debug, PartialEq, Eq)]
@@ -86,24 +86,28 @@ impl Stop {
         }
     }
 
-    /// By the library's number, which is not 0. `access` and `address` are those of a fault.
-    #[cold]
-    pub(crate) fn of(number: u64, access: Access, address: u64) -> Stop {
+    /// By the number ([`crate::number`]) that a function of the core gives where the operation is not done, or one of the
+    /// library behind `include/a72.h`; `None` for a number that stops nothing. `access` and `address` are those of a fault.
+    pub fn from_number(number: u64, access: Access, address: u64) -> Option<Stop> {
         if let Some(status) = status(number) {
-            return Stop::Fault(Fault {
+            let status = Status(status);
+            return Some(Stop::Fault(Fault {
                 access,
                 address,
-                status: Status(status),
-            });
+                status,
+            }));
         }
         match number {
-            UNDEFINED => Stop::Undefined,
-            UNIMPLEMENTED => Stop::Unimplemented,
-            _ => match Check::of(number) {
-                Some(check) => Stop::Refused(check),
-                None => unreachable!("the library gives no number {number} here"),
-            },
+            UNDEFINED => Some(Stop::Undefined),
+            UNIMPLEMENTED => Some(Stop::Unimplemented),
+            _ => Check::of(number).map(Stop::Refused),
         }
+    }
+
+    /// By a number that the core has just given.
+    #[cold]
+    pub(crate) fn of(number: u64, access: Access, address: u64) -> Stop {
+        Stop::from_number(number, access, address).expect("a number that stops an operation")
     }
 }
 
@@ -130,4 +134,4 @@ impl Display for Stop {
     }
 }
 
-impl std::error::Error for Stop {}
+impl core::error::Error for Stop {}

@@ -44,10 +44,10 @@ pub struct Census {
 
 impl Census {
     /// By the library's counts.
-    pub(crate) fn of(counts: &Counts) -> Census {
+    pub fn of(counts: &Counts) -> Census {
         Census {
-            statuses: std::array::from_fn(|i| counts[STATUS + i]),
-            rights: std::array::from_fn(|i| counts[RIGHTS + i]),
+            statuses: core::array::from_fn(|i| counts[STATUS + i]),
+            rights: core::array::from_fn(|i| counts[RIGHTS + i]),
             flat: counts[FLAT],
         }
     }

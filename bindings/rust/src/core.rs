@@ -1,39 +1,40 @@
 //! The core: its state, and every operation as a method.
 use crate::answer::Stop;
 use crate::census::Census;
-use crate::edit::Edit;
-use crate::held::Held;
 use crate::number::{DONE, FAULT};
-use crate::operation::{Access, Exception, SystemOperation, Width};
-use crate::place::WORDS;
+use crate::operation::{Access, Exception, Level, Width};
+use crate::place::State;
 use crate::ram::Ram;
-use crate::raw;
+use crate::registers::Key;
+use crate::stage1::call_words::reply;
+use crate::stage1::quick::{fetch, hint, load, settings, store, sys, translation};
+use crate::stage1::{cpu, saved};
+use crate::system_operation::SystemOperation;
+use core::fmt::{self, Debug, Formatter};
 
-/// One core: its registers, its cache of translations and their counters, in 41,744 bytes of its own.
-///
-/// It is `Send`, and not `Sync`: the library takes a core for its own as long as a call lasts, also where it only reads.
-///
-/// ```compile_fail
-/// fn shared<T: Sync>() {}
-/// shared::<a72::Core>();
-/// ```
-#[derive(Clone)]
+/// One core: its registers, its cache of translations and their counters, some 41 KB. Nothing of it can be written past
+/// a method, so that no write skips what the cache has to forget.
+#[derive(Clone, PartialEq, Eq)]
 pub struct Core {
-    pub(crate) held: Held,
+    pub(crate) core: cpu::Core,
 }
-
-/// Two cores are equal where their words are.
-impl PartialEq for Core {
-    fn eq(&self, other: &Core) -> bool {
-        self.words() == other.words()
-    }
-}
-
-impl Eq for Core {}
 
 impl Default for Core {
     fn default() -> Core {
         Core::new()
+    }
+}
+
+/// In short: [`Core::words`] has all.
+impl Debug for Core {
+    fn fmt(&self, f: &mut Formatter) -> fmt::Result {
+        f.debug_struct("Core")
+            .field("level", &self.level())
+            .field("pc", &format_args!("{:#x}", self.pc()))
+            .field("pstate", &format_args!("{:#x}", self.pstate()))
+            .field("asid", &self.asid())
+            .field("counters", &self.counters())
+            .finish_non_exhaustive()
     }
 }
 
@@ -49,76 +50,72 @@ fn done(number: u64) -> Result<(), Stop> {
 impl Core {
     /// A core out of reset: EL3, stage 1 off, the cache empty.
     pub fn new() -> Core {
-        Core { held: Held::new() }
+        Core {
+            core: cpu::Core::new(),
+        }
     }
 
-    /// The core of these words, as [`Self::words`] gave them, or any others: of a word that is larger than its part some
-    /// bits count.
-    pub fn from_words(words: Box<[u64; WORDS]>) -> Core {
-        let mut core = Core::new();
-        core.restore(&words);
-        core
-    }
-
-    /// Become the core of these words.
-    pub fn restore(&mut self, words: &[u64; WORDS]) {
-        self.held.restore(words);
+    /// Become the core of these words, as [`Self::save`] gave them, or any others: of a word that is larger than its part
+    /// some bits count.
+    pub fn restore(&mut self, words: &State) {
+        saved::restore::restore(&mut self.core, words);
     }
 
     /// All that the core holds, saved as words. [`crate::place`] has the layout.
-    pub fn words(&self) -> Box<[u64; WORDS]> {
-        self.held.save()
+    pub fn save(&self, words: &mut State) {
+        saved::save::save(&self.core, words);
     }
 
-    /// The word at a place, as [`Self::words`] has it; 0 past the last.
+    /// The word at a place, as [`Self::save`] has it; 0 past the last.
     pub fn word(&self, place: usize) -> u64 {
-        raw::word(&self.held, place)
-    }
-
-    /// The words, to be changed: the core becomes the one that they hold when what this gives is dropped. The library
-    /// stays inside whatever they hold; that the cache holds only what the tables said is then the caller's affair.
-    pub fn words_mut(&mut self) -> Edit<'_> {
-        Edit::new(self)
-    }
-
-    /// The words alone.
-    pub fn into_words(self) -> Box<[u64; WORDS]> {
-        self.words()
+        saved::save::word(&self.core, place)
     }
 
     /// The physical address of `va` for an access of this kind at the present level. With stage 1 off: `va` without its tag
     /// where TBI drops that, and from 2^44 on a fault of status 0x00.
-    #[inline]
+    #[inline(always)]
     pub fn translate(&mut self, ram: &Ram, va: u64, access: Access) -> Result<u64, Stop> {
-        match raw::translate(&mut self.held, va, access as u64, ram.base, ram.bytes) {
-            (DONE, pa) => Ok(pa),
-            (n, _) => Err(Stop::of(n, access, va)),
+        match hint::served(&self.core, va, access as u64, ram.base, ram.bytes.len() as u64) {
+            Some(pa) => Ok(pa),
+            None => self.translate_past_hint(ram, va, access),
+        }
+    }
+
+    // What `quick::translation::translate` does where no hint serves; out of line, so that a hint pays nothing for it.
+    #[inline(never)]
+    fn translate_past_hint(&mut self, ram: &Ram, va: u64, access: Access) -> Result<u64, Stop> {
+        let mut pa = 0;
+        match translation::kind_asked(&mut self.core, va, access as u64, &mut pa, ram.base, ram.bytes) {
+            DONE => Ok(pa),
+            n => Err(Stop::of(n, access, va)),
         }
     }
 
     /// Where a data read of `va` would go; `None` where it would fault.
-    #[inline]
+    #[inline(always)]
     pub fn data_pa(&mut self, ram: &Ram, va: u64) -> Result<Option<u64>, Stop> {
-        match raw::data_pa(&mut self.held, va, ram.base, ram.bytes) {
-            (DONE, pa) => Ok(Some(pa)),
-            (FAULT.., _) => Ok(None),
-            (n, _) => Err(Stop::of(n, Access::Read, va)),
+        let mut pa = 0;
+        match translation::data_pa(&mut self.core, va, &mut pa, ram.base, ram.bytes) {
+            DONE => Ok(Some(pa)),
+            FAULT.. => Ok(None),
+            n => Err(Stop::of(n, Access::Read, va)),
         }
     }
 
     /// Where an instruction fetch from `va` would go; `None` where it would fault.
-    #[inline]
+    #[inline(always)]
     pub fn fetch_pa(&mut self, ram: &Ram, va: u64) -> Result<Option<u64>, Stop> {
-        match raw::fetch_pa(&mut self.held, va, ram.base, ram.bytes) {
-            (DONE, pa) => Ok(Some(pa)),
-            (FAULT.., _) => Ok(None),
-            (n, _) => Err(Stop::of(n, Access::Fetch, va)),
+        let mut pa = 0;
+        match fetch::fetch_pa(&mut self.core, va, &mut pa, ram.base, ram.bytes) {
+            DONE => Ok(Some(pa)),
+            FAULT.. => Ok(None),
+            n => Err(Stop::of(n, Access::Fetch, va)),
         }
     }
 
     /// Load from `va`, zero-extended; over two pages where it crosses the end of one. A fault's address is then the lowest
     /// failing byte's: the first page's bytes outside RAM come before a fault of the second.
-    #[inline]
+    #[inline(always)]
     pub fn load(&mut self, ram: &Ram, va: u64, width: Width) -> Result<u64, Stop> {
         self.load_bytes(ram, va, width as u64)
     }
@@ -126,15 +123,16 @@ impl Core {
     /// [`Self::load`] of a size in bytes, which is refused where it is none of 1, 2, 4 and 8.
     #[inline]
     pub fn load_bytes(&mut self, ram: &Ram, va: u64, size: u64) -> Result<u64, Stop> {
-        match raw::load(&mut self.held, va, size, ram.base, ram.bytes) {
-            (DONE, v) => Ok(v),
-            (n, address) => Err(Stop::of(n, Access::Read, address)),
+        let mut answer = 0;
+        match load::load(&mut self.core, va, size, &mut answer, ram.base, ram.bytes) {
+            DONE => Ok(answer),
+            n => Err(Stop::of(n, Access::Read, answer)),
         }
     }
 
     /// Store the low bytes of a value at `va`. Both pages are translated before either is written. A fault's address is then
     /// the lowest failing byte's: the first page's bytes outside RAM come before a fault of the second.
-    #[inline]
+    #[inline(always)]
     pub fn store(&mut self, ram: &mut Ram, va: u64, width: Width, value: u64) -> Result<(), Stop> {
         self.store_bytes(ram, va, width as u64, value)
     }
@@ -142,26 +140,46 @@ impl Core {
     /// [`Self::store`] of a size in bytes, which is refused where it is none of 1, 2, 4 and 8.
     #[inline]
     pub fn store_bytes(&mut self, ram: &mut Ram, va: u64, size: u64, value: u64) -> Result<(), Stop> {
-        match raw::store(&mut self.held, va, size, value, ram.base, ram.bytes) {
-            (DONE, _) => Ok(()),
-            (n, address) => Err(Stop::of(n, Access::Write, address)),
+        let mut answer = 0;
+        match store::store(&mut self.core, va, size, value, &mut answer, ram.base, ram.bytes) {
+            DONE => Ok(()),
+            n => Err(Stop::of(n, Access::Write, answer)),
         }
     }
 
     /// The instruction at `va`.
-    #[inline]
+    #[inline(always)]
     pub fn fetch(&mut self, ram: &Ram, va: u64) -> Result<u32, Stop> {
-        match raw::fetch(&mut self.held, va, ram.base, ram.bytes) {
-            (DONE, instruction) => Ok(instruction as u32),
-            (n, _) => Err(Stop::of(n, Access::Fetch, va)),
+        let mut instruction = 0;
+        match fetch::fetch(&mut self.core, va, &mut instruction, ram.base, ram.bytes) {
+            DONE => Ok(instruction as u32),
+            n => Err(Stop::of(n, Access::Fetch, va)),
         }
     }
 
     /// Carry out a SYS instruction: TLBI, AT, DC ZVA; other cache maintenance does nothing.
     pub fn system(&mut self, ram: &mut Ram, operation: SystemOperation) -> Result<(), Stop> {
-        match raw::system(&mut self.held, operation.fields(), ram.base, ram.bytes) {
-            (DONE, _) => Ok(()),
-            (n, address) => Err(Stop::of(n, Access::Write, address)),
+        let SystemOperation {
+            op1,
+            crn,
+            crm,
+            op2,
+            rt,
+        } = operation;
+        let mut address = 0;
+        match sys::system(
+            &mut self.core,
+            op1,
+            crn,
+            crm,
+            op2,
+            rt,
+            &mut address,
+            ram.base,
+            ram.bytes,
+        ) {
+            DONE => Ok(()),
+            n => Err(Stop::of(n, Access::Write, address)),
         }
     }
 
@@ -169,36 +187,40 @@ impl Core {
     /// and RAM as they are: the cache is not asked, and nothing changes. More than [`crate::MOST_PAGES`] pages are
     /// refused, and a range that passes 2^64; it may end there.
     pub fn census(&self, ram: &Ram, first: u64, pages: u64) -> Result<Census, Stop> {
-        match raw::census(&self.held, first, pages, ram.base, ram.bytes) {
-            (DONE, counts) => Ok(Census::of(&counts)),
-            (n, _) => Err(Stop::of(n, Access::Read, first)),
+        let found = self.core.census(ram.base, ram.bytes, first, pages);
+        match reply::number(found.reply) {
+            DONE => Ok(Census::of(&found.counts)),
+            n => Err(Stop::of(n, Access::Read, first)),
         }
     }
 
     /// Write a system register by its key ([`crate::registers`]): the register's mask applies, and the cache forgets
     /// what the write unsettles.
-    pub fn write_register(&mut self, key: u64, value: u64) -> Result<(), Stop> {
-        done(raw::register(&mut self.held, key, value))
+    pub fn write_register(&mut self, key: impl Into<Key>, value: u64) -> Result<(), Stop> {
+        done(settings::register(&mut self.core, key.into().into(), value))
     }
 
     /// Set the present exception level.
-    pub fn set_level(&mut self, level: u64) -> Result<(), Stop> {
-        done(raw::level(&mut self.held, level))
+    #[inline(always)]
+    pub fn set_level(&mut self, level: impl Into<Level>) -> Result<(), Stop> {
+        done(settings::level(&mut self.core, level.into().into()))
     }
 
     /// Mark the accesses that follow as unprivileged (LDTR and STTR), or not.
+    #[inline(always)]
     pub fn set_unprivileged(&mut self, on: bool) -> Result<(), Stop> {
-        done(raw::mark(&mut self.held, on.into()))
+        done(settings::mark(&mut self.core, on.into()))
     }
 
     /// Set a general register, X0 to X30; 31 is the zero register and takes nothing.
+    #[inline(always)]
     pub fn set_general(&mut self, number: u64, value: u64) -> Result<(), Stop> {
-        done(raw::general(&mut self.held, number, value))
+        done(settings::general(&mut self.core, number, value))
     }
 
     /// Take an exception: it is routed by SCR_EL3 and HCR_EL2; ELR, SPSR, ESR and FAR are written, the level and the PC
     /// are those of the vector.
     pub fn take(&mut self, exception: &Exception) -> Result<(), Stop> {
-        done(raw::abort(&mut self.held, &exception.words()))
+        done(settings::abort(&mut self.core, exception.known()))
     }
 }

@@ -1,4 +1,35 @@
-//! What operations take: kinds of access, widths, statuses, exceptions, system operations.
+//! What operations take: levels, kinds of access, widths, statuses, exceptions.
+use crate::stage1::exception::kind::{self, DataAbort, InsnAbort};
+use crate::stage1::fault;
+
+/// An exception level. Any number is one: those above 3 are refused where a level is set.
+#[derive(Clone, Copy, Debug, PartialEq, Eq, PartialOrd, Ord, Hash)]
+pub struct Level(u64);
+
+impl Level {
+    /// EL0, that of applications.
+    pub const EL0: Level = Level(0);
+    /// EL1, that of a kernel.
+    pub const EL1: Level = Level(1);
+    /// EL2, that of a hypervisor.
+    pub const EL2: Level = Level(2);
+    /// EL3, that of a secure monitor; a core is there out of reset.
+    pub const EL3: Level = Level(3);
+}
+
+impl From<u64> for Level {
+    #[inline]
+    fn from(number: u64) -> Level {
+        Level(number)
+    }
+}
+
+impl From<Level> for u64 {
+    #[inline]
+    fn from(level: Level) -> u64 {
+        level.0
+    }
+}
 
 /// What an access wants of a page.
 #[derive(Clone, Copy, Debug, PartialEq, Eq)]
@@ -83,92 +114,31 @@ pub enum Exception {
 }
 
 impl Exception {
-    /// The four words by which the library knows it. Each part fits: the library refuses an immediate of more than 16
-    /// bits, a status of more than 8, and a `write` that is neither 0 nor 1.
-    pub(crate) fn words(&self) -> [u64; 4] {
+    /// The core's own.
+    pub(crate) fn known(&self) -> kind::Exception {
         match *self {
-            Exception::Undefined => [0, 0, 0, 0],
-            Exception::Svc(i) => [1, i.into(), 0, 0],
-            Exception::Hvc(i) => [2, i.into(), 0, 0],
-            Exception::Smc(i) => [3, i.into(), 0, 0],
-            Exception::Brk(i) => [4, i.into(), 0, 0],
+            Exception::Undefined => kind::Exception::Undefined,
+            Exception::Svc(immediate) => kind::Exception::Svc(immediate),
+            Exception::Hvc(immediate) => kind::Exception::Hvc(immediate),
+            Exception::Smc(immediate) => kind::Exception::Smc(immediate),
+            Exception::Brk(immediate) => kind::Exception::Brk(immediate),
             Exception::DataAbort {
                 address,
                 write,
                 status,
-            } => [5, address, write.into(), status.0.into()],
-            Exception::InstructionAbort { address, status } => [6, address, status.0.into(), 0],
-            Exception::PcAlignment => [7, 0, 0, 0],
+            } => {
+                let fault = fault::first(status.0);
+                kind::Exception::DataAbort(DataAbort {
+                    addr: address,
+                    write,
+                    fault,
+                })
+            }
+            Exception::InstructionAbort { address, status } => {
+                let fault = fault::first(status.0);
+                kind::Exception::InsnAbort(InsnAbort { addr: address, fault })
+            }
+            Exception::PcAlignment => kind::Exception::PcAlignment,
         }
-    }
-}
-
-/// A SYS instruction: TLBI, AT, DC and IC operations by their encoding.
-#[derive(Clone, Copy, Debug, PartialEq, Eq)]
-pub struct SystemOperation {
-    /// 0 to 7.
-    pub op1: u64,
-    /// 0 to 15.
-    pub crn: u64,
-    /// 0 to 15.
-    pub crm: u64,
-    /// 0 to 7.
-    pub op2: u64,
-    /// The general register's number; 31 is zero.
-    pub rt: u64,
-}
-
-impl SystemOperation {
-    /// The operation of these fields.
-    pub const fn new(op1: u64, crn: u64, crm: u64, op2: u64, rt: u64) -> SystemOperation {
-        SystemOperation {
-            op1,
-            crn,
-            crm,
-            op2,
-            rt,
-        }
-    }
-
-    /// The operation that an instruction word encodes; `None` where it is no SYS.
-    pub const fn decode(instruction: u32) -> Option<SystemOperation> {
-        if instruction & 0xFFF8_0000 != 0xD508_0000 {
-            return None;
-        }
-        let i = instruction as u64;
-        Some(SystemOperation::new(
-            i >> 16 & 7,
-            i >> 12 & 15,
-            i >> 8 & 15,
-            i >> 5 & 7,
-            i & 31,
-        ))
-    }
-
-    /// TLBI VMALLE1.
-    pub const TLBI_VMALLE1: SystemOperation = SystemOperation::new(0, 8, 7, 0, 31);
-
-    /// TLBI VAE1 of the page and ASID in a register.
-    pub const fn tlbi_vae1(rt: u64) -> SystemOperation {
-        SystemOperation::new(0, 8, 7, 1, rt)
-    }
-
-    /// TLBI ASIDE1 of the ASID in a register.
-    pub const fn tlbi_aside1(rt: u64) -> SystemOperation {
-        SystemOperation::new(0, 8, 7, 2, rt)
-    }
-
-    /// AT S1E1R of the address in a register; the answer is in PAR_EL1.
-    pub const fn at_s1e1r(rt: u64) -> SystemOperation {
-        SystemOperation::new(0, 7, 8, 0, rt)
-    }
-
-    /// DC ZVA: 64 bytes of zeroes at the address in a register.
-    pub const fn dc_zva(rt: u64) -> SystemOperation {
-        SystemOperation::new(3, 7, 4, 1, rt)
-    }
-
-    pub(crate) fn fields(&self) -> [u64; 5] {
-        [self.op1, self.crn, self.crm, self.op2, self.rt]
     }
 }

@@ -1,21 +1,38 @@
 //! The system registers kept: their keys, and where a core's words hold them.
 use crate::place;
 
-/// The key of a register's encoding, as MSR and MRS name it.
-pub const fn key(op0: u64, op1: u64, crn: u64, crm: u64, op2: u64) -> u64 {
-    op0 << 14 | op1 << 11 | crn << 7 | crm << 3 | op2
+/// A register's encoding, as MSR and MRS name it: op0, op1, CRn, CRm and op2.
+#[derive(Clone, Copy, Debug, PartialEq, Eq, PartialOrd, Ord, Hash)]
+pub struct Key(u64);
+
+impl From<u64> for Key {
+    /// Any number; one of no register kept is refused where it is used.
+    fn from(number: u64) -> Key {
+        Key(number)
+    }
+}
+
+impl From<Key> for u64 {
+    #[inline]
+    fn from(key: Key) -> u64 {
+        key.0
+    }
+}
+
+/// The key of a register's encoding.
+pub const fn key(op0: u64, op1: u64, crn: u64, crm: u64, op2: u64) -> Key {
+    Key(op0 << 14 | op1 << 11 | crn << 7 | crm << 3 | op2)
 }
 
 macro_rules! registers {
     ($($name:ident $op1:literal $crn:literal $crm:literal $op2:literal, $place:expr;)*) => {
         $(#[doc = concat!(stringify!($name), "'s key.")]
-        pub const $name: u64 = key(3, $op1, $crn, $crm, $op2);)*
+        pub const $name: Key = key(3, $op1, $crn, $crm, $op2);)*
 
         /// Each register's key, its name, and its place in a core's words.
-        pub const ALL: &[(u64, &str, usize)] = &[$(($name, stringify!($name), $place),)*];
+        pub const ALL: &[(Key, &str, usize)] = &[$(($name, stringify!($name), $place),)*];
     };
 }
-
 registers! {
     SCTLR_EL1 0 1 0 0, place::SCTLR;
     SCTLR_EL2 4 1 0 0, place::SCTLR + 1;
@@ -53,6 +70,13 @@ registers! {
 }
 
 /// The place of a register in a core's words, by its key.
-pub fn place(key: u64) -> Option<usize> {
+pub fn place(key: impl Into<Key>) -> Option<usize> {
+    let key = key.into();
     ALL.iter().find(|(k, ..)| *k == key).map(|(_, _, place)| *place)
+}
+
+/// The name of a register, by its key.
+pub fn name(key: impl Into<Key>) -> Option<&'static str> {
+    let key = key.into();
+    ALL.iter().find(|(k, ..)| *k == key).map(|(_, name, _)| *name)
 }

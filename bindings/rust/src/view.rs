@@ -1,7 +1,10 @@
 //! What a core holds, by name.
 use crate::census::Rights;
 use crate::core::Core;
-use crate::raw;
+use crate::registers::Key;
+use crate::stage1::core_parts::{put, read};
+use crate::stage1::tlb::Inval;
+use crate::stage1::{exception, tlb};
 
 /// What the cache counted at one exception level.
 #[derive(Clone, Copy, Debug, Default, PartialEq, Eq)]
@@ -52,24 +55,35 @@ pub enum Broadcast {
     Asid(u16),
 }
 
-impl Broadcast {
-    /// By the library's two words.
-    fn of(words: [u64; 2]) -> Option<Broadcast> {
-        match words {
-            [1, _] => Some(Broadcast::All),
-            [2, value] => Some(Broadcast::Page(value)),
-            [3, value] => Some(Broadcast::Asid(value as u16)),
-            _ => None,
+impl From<Inval> for Broadcast {
+    fn from(what: Inval) -> Broadcast {
+        match what {
+            Inval::All => Broadcast::All,
+            Inval::Page(value) => Broadcast::Page(value),
+            Inval::Asid(asid) => Broadcast::Asid(asid),
         }
     }
+}
 
-    fn words(self) -> [u64; 2] {
-        match self {
-            Broadcast::All => [1, 0],
-            Broadcast::Page(value) => [2, value],
-            Broadcast::Asid(asid) => [3, asid.into()],
+impl From<Broadcast> for Inval {
+    fn from(what: Broadcast) -> Inval {
+        match what {
+            Broadcast::All => Inval::All,
+            Broadcast::Page(value) => Inval::Page(value),
+            Broadcast::Asid(asid) => Inval::Asid(asid),
         }
     }
+}
+
+/// PSTATE but for the exception level.
+#[derive(Clone, Copy, Debug, PartialEq, Eq)]
+pub struct Flags {
+    /// N, Z, C and V in bits 3 to 0.
+    pub nzcv: u8,
+    /// D, A, I and F in bits 3 to 0.
+    pub daif: u8,
+    /// SP: SP_ELx is used, and not SP_EL0.
+    pub sp_sel: bool,
 }
 
 /// An entry of the cache. It stands in slot page number % 1,024.
@@ -89,6 +103,30 @@ pub struct Entry {
     pub asid: u16,
     /// The physical page's address.
     pub pa: u64,
+}
+
+impl From<tlb::entry::Entry> for Entry {
+    fn from(entry: tlb::entry::Entry) -> Entry {
+        let tlb::entry::Entry {
+            tag,
+            generation,
+            perms,
+            level,
+            global,
+            asid,
+            pa,
+        } = entry;
+        let rights = Rights(perms);
+        Entry {
+            tag,
+            generation,
+            rights,
+            level,
+            global,
+            asid,
+            pa,
+        }
+    }
 }
 
 /// A data hint. That of page number p for reads stands in slot (p ^ p >> 5 ^ p >> 10) % 256, for writes 256 further.
@@ -113,112 +151,139 @@ pub struct FetchHint {
 
 impl Core {
     /// A system register by its key ([`crate::registers`]); `None` for a key of no register kept.
-    pub fn register(&self, key: u64) -> Option<u64> {
-        raw::get_register(&self.held, key)
+    pub fn register(&self, key: impl Into<Key>) -> Option<u64> {
+        read::register_of(&self.core, key.into().into())
     }
 
     /// The present exception level.
+    #[inline]
     pub fn level(&self) -> u64 {
-        raw::get_level(&self.held)
+        self.core.privilege.level.into()
     }
 
     /// Whether accesses are marked unprivileged.
+    #[inline]
     pub fn unprivileged(&self) -> bool {
-        raw::get_unprivileged(&self.held) == 1
+        self.core.privilege.unprivileged
     }
 
     /// PSTATE as an SPSR has it: NZCV in bits 31 to 28, DAIF in 9 to 6, the level in 3 and 2, SP in 0.
+    #[inline]
     pub fn pstate(&self) -> u64 {
-        raw::get_pstate(&self.held)
+        read::pstate(&self.core)
     }
 
-    /// Set NZCV, DAIF and SP by an SPSR's word; the level stays ([`Core::set_level`] sets it).
+    /// Set NZCV, DAIF and SP by an SPSR's word; the level stays ([`Self::set_level`] sets it).
+    #[inline]
     pub fn set_pstate(&mut self, spsr: u64) {
-        raw::set_pstate(&mut self.held, spsr);
+        put::pstate(&mut self.core, spsr);
+    }
+
+    /// PSTATE's parts.
+    #[inline]
+    pub fn flags(&self) -> Flags {
+        let exception::flags::Flags { nzcv, daif, spsel } = self.core.flags;
+        Flags {
+            nzcv: (nzcv >> 28) as u8,
+            daif: (daif >> 6) as u8 & 15,
+            sp_sel: spsel,
+        }
+    }
+
+    /// Set PSTATE's parts: of NZCV and DAIF four bits count.
+    #[inline]
+    pub fn set_flags(&mut self, flags: Flags) {
+        let Flags { nzcv, daif, sp_sel } = flags;
+        self.set_pstate(u64::from(nzcv & 15) << 28 | u64::from(daif & 15) << 6 | u64::from(sp_sel));
     }
 
     /// A general register, X0 to X30; all others are zero.
+    #[inline]
     pub fn general(&self, number: usize) -> u64 {
-        raw::get_general(&self.held, number as u64)
+        self.core.reg(number as u64)
     }
 
     /// The PC.
+    #[inline]
     pub fn pc(&self) -> u64 {
-        raw::get_pc(&self.held)
+        self.core.pc
     }
 
     /// Set the PC: an exception that is taken saves it.
+    #[inline]
     pub fn set_pc(&mut self, pc: u64) {
-        raw::set_pc(&mut self.held, pc);
+        put::pc(&mut self.core, pc);
     }
 
     /// The cache's counters.
     pub fn counters(&self) -> Counters {
+        let tlb = &self.core.tlb;
+        let levels = tlb.levels.map(|tally| LevelCounters {
+            hits: tally.hits,
+            walks: tally.walks,
+        });
         Counters {
-            levels: [0, 1, 2, 3].map(|level| LevelCounters {
-                hits: raw::get_hits(&self.held, level),
-                walks: raw::get_walks(&self.held, level),
-            }),
-            flushes: raw::get_flushes(&self.held),
-            drops: raw::get_drops(&self.held),
-            epoch: raw::get_epoch(&self.held),
+            levels,
+            flushes: tlb.flushes,
+            drops: tlb.drops,
+            epoch: tlb.epoch,
         }
     }
 
     /// The physical address of the last load that was translated.
+    #[inline]
     pub fn last_pa(&self) -> u64 {
-        raw::get_last_pa(&self.held)
+        self.core.last_pa
     }
 
     /// The physical address of the last external abort.
+    #[inline]
     pub fn abort_pa(&self) -> u64 {
-        raw::get_abort_pa(&self.held)
+        self.core.abort_pa
     }
 
     /// What the other cores are to forget.
+    #[inline]
     pub fn broadcast(&self) -> Option<Broadcast> {
-        Broadcast::of(raw::get_pending(&self.held))
+        self.core.tlb.broadcast.map(Broadcast::from)
     }
 
     /// The same; afterwards nothing is pending.
+    #[inline]
     pub fn take_broadcast(&mut self) -> Option<Broadcast> {
-        Broadcast::of(raw::take_pending(&mut self.held))
+        self.core.tlb.broadcast.take().map(Broadcast::from)
     }
 
     /// Forget what another core's TLBI asks for. What is pending here stays.
     pub fn receive(&mut self, broadcast: Broadcast) {
-        let [kind, value] = broadcast.words();
-        raw::receive(&mut self.held, kind, value);
+        self.core.tlb.invalidate(broadcast.into());
     }
 
     /// The cache's generation: a flush moves it, and entries of another are dead.
     pub fn generation(&self) -> u32 {
-        raw::get_generation(&self.held) as u32
+        self.core.tlb.generation
     }
 
     /// Set the cache's generation, as if many flushes had gone by: the entries that are live stay live, all others become
     /// blank, and the hints stay.
     pub fn set_generation(&mut self, generation: u32) {
-        raw::set_generation(&mut self.held, generation.into());
+        put::generation(&mut self.core, generation.into());
     }
 
     /// The ASID in force.
     pub fn asid(&self) -> u16 {
-        raw::get_asid(&self.held) as u16
+        self.core.tlb.asid
     }
 
     /// The cache's entry in a slot, live or dead; past the last slot, 1,023, a blank one.
     pub fn entry(&self, slot: usize) -> Entry {
-        let [tag, generation, rights, level, global, asid, pa] = raw::get_entry(&self.held, slot as u64);
-        Entry {
-            tag,
-            generation: generation as u32,
-            rights: Rights(rights as u8),
-            level: level as u8,
-            global: global == 1,
-            asid: asid as u16,
-            pa,
-        }
+        self.core
+            .tlb
+            .entries
+            .get(slot)
+            .copied()
+            .unwrap_or_default()
+            .into()
     }
 
     /// Whether an entry may answer: it was not dropped, and is of the present generation.
@@ -228,14 +293,13 @@ impl Core {
 
     /// The data hint in a slot, 0 to 511, if there is one.
     pub fn hint(&self, slot: usize) -> Option<Hint> {
-        let [key, pa] = raw::get_hint(&self.held, slot as u64);
+        let tlb::hint::Hint { key, pa } = *self.core.tlb.hints.get(slot)?;
         (key != u64::MAX).then_some(Hint { key, pa })
     }
 
     /// The fetch hint, if there is one.
     pub fn fetch_hint(&self) -> Option<FetchHint> {
-        let [present, page, level, pa] = raw::get_fetch_hint(&self.held);
-        let level = level as u8;
-        (present == 1).then_some(FetchHint { page, level, pa })
+        let tlb::hint::FetchHint { page, level, pa } = self.core.tlb.fetch?;
+        Some(FetchHint { page, level, pa })
     }
 }

@@ -88,9 +88,9 @@
 //! behind the keys and flags that say 'none' is free.
 #[cfg(feature = "rattle")]
 pub mod each;
-#[path = "../../../bindings/rust/src/held.rs"]
+#[path = "../../../bindings/rust-archive/src/held.rs"]
 mod held;
-mod poke;
+pub(crate) mod poke;
 mod state;
 mod words;
 

@@ -1,5 +1,4 @@
 //! An oracle for stage 1 of the A72: the scope's operations on pimu's own Rust, and traces of them.
-#[cfg(feature = "rattle")]
 pub mod bench;
 pub mod census;
 pub mod cli;
@@ -14,6 +13,7 @@ pub mod grid;
 pub mod instructions;
 pub mod model;
 pub mod op;
+pub mod plain;
 pub mod ram;
 pub mod recorded;
 pub mod refusal;
@@ -31,7 +31,7 @@ pub mod wild;
 #[path = "../../../bindings/rust/src/count.rs"]
 pub mod count;
 #[allow(dead_code)]
-#[path = "../../../bindings/rust/src/library.rs"]
+#[path = "../../../bindings/rust-archive/src/library.rs"]
 mod library;
 #[path = "../../../bindings/rust/src/number.rs"]
 pub mod number;

@@ -1,6 +1,6 @@
 //! The words of a core while they are changed.
 use crate::core::Core;
-use crate::place::State;
+use plain::place::State;
 use std::ops::{Deref, DerefMut};
 
 /// The words of a core, to be changed ([`Core::words_mut`]): the core becomes the one that they hold when this is dropped.

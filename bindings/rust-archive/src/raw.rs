@@ -2,10 +2,10 @@
 //! second number of a pair is what then stands in the answer's word.
 #![allow(unsafe_code)]
 
-use crate::count::{Counts, COUNTS};
 use crate::held::Held;
 use crate::library;
-use crate::number::DONE;
+use plain::count::{Counts, COUNTS};
+use plain::number::DONE;
 
 // Why each call below is sound: the library reads and writes the core's memory, the bytes of `ram` up to the length
 // beside it, and the one word `ans` or the array it answers in, and keeps no pointer. The core has its memory for itself
@@ -230,8 +230,8 @@ pub fn set_generation(core: &mut Held, generation: u64) -> u64 {
 #[cfg(test)]
 mod tests {
     use super::*;
-    use crate::number::NAMES_NOTHING;
-    use crate::place::WORDS;
+    use plain::number::NAMES_NOTHING;
+    use plain::WORDS;
 
     #[test]
     fn every_word_is_saved() {

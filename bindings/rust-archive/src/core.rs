@@ -1,0 +1,236 @@
+//! The core: its state, and every operation as a method.
+use crate::edit::Edit;
+use crate::held::Held;
+use crate::raw;
+use crate::words::of_exception;
+use plain::number::{DONE, FAULT};
+use plain::registers::Key;
+use plain::{Access, Census, Exception, Level, Ram, Stop, SystemOperation, Width, WORDS};
+use std::fmt::{self, Debug, Formatter};
+
+/// One core: its registers, its cache of translations and their counters, in 41,744 bytes of its own.
+///
+/// It is `Send`, and not `Sync`: the library takes a core for its own as long as a call lasts, also where it only reads.
+///
+/// ```compile_fail
+/// fn shared<T: Sync>() {}
+/// shared::<a72::Core>();
+/// ```
+#[derive(Clone)]
+pub struct Core {
+    pub(crate) held: Held,
+}
+
+/// Two cores are equal where their words are.
+impl PartialEq for Core {
+    fn eq(&self, other: &Core) -> bool {
+        self.words() == other.words()
+    }
+}
+
+impl Eq for Core {}
+
+impl Default for Core {
+    fn default() -> Core {
+        Core::new()
+    }
+}
+
+/// In short: [`Core::words`] has all.
+impl Debug for Core {
+    fn fmt(&self, f: &mut Formatter) -> fmt::Result {
+        f.debug_struct("Core")
+            .field("level", &self.level())
+            .field("pc", &format_args!("{:#x}", self.pc()))
+            .finish_non_exhaustive()
+    }
+}
+
+/// By a number that the library has just given.
+#[cold]
+fn stop(number: u64, access: Access, address: u64) -> Stop {
+    Stop::from_number(number, access, address).expect("a number that stops an operation")
+}
+
+/// The answer of an operation that gives nothing but success.
+#[inline]
+fn done(number: u64) -> Result<(), Stop> {
+    match number {
+        DONE => Ok(()),
+        n => Err(stop(n, Access::Read, 0)),
+    }
+}
+
+impl Core {
+    /// A core out of reset: EL3, stage 1 off, the cache empty.
+    pub fn new() -> Core {
+        Core { held: Held::new() }
+    }
+
+    /// The core of these words, as [`Self::words`] gave them, or any others: of a word that is larger than its part some
+    /// bits count.
+    pub fn from_words(words: Box<[u64; WORDS]>) -> Core {
+        let mut core = Core::new();
+        core.restore(&words);
+        core
+    }
+
+    /// Become the core of these words.
+    pub fn restore(&mut self, words: &[u64; WORDS]) {
+        self.held.restore(words);
+    }
+
+    /// All that the core holds, saved as words. [`crate::place`] has the layout.
+    pub fn words(&self) -> Box<[u64; WORDS]> {
+        self.held.save()
+    }
+
+    /// The same, into an array.
+    pub fn save(&self, words: &mut [u64; WORDS]) {
+        self.held.save_to(words);
+    }
+
+    /// The word at a place, as [`Self::words`] has it; 0 past the last.
+    pub fn word(&self, place: usize) -> u64 {
+        raw::word(&self.held, place)
+    }
+
+    /// The words, to be changed: the core becomes the one that they hold when what this gives is dropped. The library
+    /// stays inside whatever they hold; that the cache holds only what the tables said is then the caller's affair.
+    pub fn words_mut(&mut self) -> Edit<'_> {
+        Edit::new(self)
+    }
+
+    /// The words alone.
+    pub fn into_words(self) -> Box<[u64; WORDS]> {
+        self.words()
+    }
+
+    /// The physical address of `va` for an access of this kind at the present level. With stage 1 off: `va` without its tag
+    /// where TBI drops that, and from 2^44 on a fault of status 0x00.
+    #[inline]
+    pub fn translate(&mut self, ram: &Ram, va: u64, access: Access) -> Result<u64, Stop> {
+        match raw::translate(&mut self.held, va, access as u64, ram.base, ram.bytes) {
+            (DONE, pa) => Ok(pa),
+            (n, _) => Err(stop(n, access, va)),
+        }
+    }
+
+    /// Where a data read of `va` would go; `None` where it would fault.
+    #[inline]
+    pub fn data_pa(&mut self, ram: &Ram, va: u64) -> Result<Option<u64>, Stop> {
+        match raw::data_pa(&mut self.held, va, ram.base, ram.bytes) {
+            (DONE, pa) => Ok(Some(pa)),
+            (FAULT.., _) => Ok(None),
+            (n, _) => Err(stop(n, Access::Read, va)),
+        }
+    }
+
+    /// Where an instruction fetch from `va` would go; `None` where it would fault.
+    #[inline]
+    pub fn fetch_pa(&mut self, ram: &Ram, va: u64) -> Result<Option<u64>, Stop> {
+        match raw::fetch_pa(&mut self.held, va, ram.base, ram.bytes) {
+            (DONE, pa) => Ok(Some(pa)),
+            (FAULT.., _) => Ok(None),
+            (n, _) => Err(stop(n, Access::Fetch, va)),
+        }
+    }
+
+    /// Load from `va`, zero-extended; over two pages where it crosses the end of one.
+    #[inline]
+    pub fn load(&mut self, ram: &Ram, va: u64, width: Width) -> Result<u64, Stop> {
+        self.load_bytes(ram, va, width as u64)
+    }
+
+    /// [`Self::load`] of a size in bytes, which is refused where it is none of 1, 2, 4 and 8.
+    #[inline]
+    pub fn load_bytes(&mut self, ram: &Ram, va: u64, size: u64) -> Result<u64, Stop> {
+        match raw::load(&mut self.held, va, size, ram.base, ram.bytes) {
+            (DONE, v) => Ok(v),
+            (n, address) => Err(stop(n, Access::Read, address)),
+        }
+    }
+
+    /// Store the low bytes of a value at `va`. Both pages are translated before either is written.
+    #[inline]
+    pub fn store(&mut self, ram: &mut Ram, va: u64, width: Width, value: u64) -> Result<(), Stop> {
+        self.store_bytes(ram, va, width as u64, value)
+    }
+
+    /// [`Self::store`] of a size in bytes, which is refused where it is none of 1, 2, 4 and 8.
+    #[inline]
+    pub fn store_bytes(&mut self, ram: &mut Ram, va: u64, size: u64, value: u64) -> Result<(), Stop> {
+        match raw::store(&mut self.held, va, size, value, ram.base, ram.bytes) {
+            (DONE, _) => Ok(()),
+            (n, address) => Err(stop(n, Access::Write, address)),
+        }
+    }
+
+    /// The instruction at `va`.
+    #[inline]
+    pub fn fetch(&mut self, ram: &Ram, va: u64) -> Result<u32, Stop> {
+        match raw::fetch(&mut self.held, va, ram.base, ram.bytes) {
+            (DONE, instruction) => Ok(instruction as u32),
+            (n, _) => Err(stop(n, Access::Fetch, va)),
+        }
+    }
+
+    /// Carry out a SYS instruction: TLBI, AT, DC ZVA; other cache maintenance does nothing.
+    pub fn system(&mut self, ram: &mut Ram, operation: SystemOperation) -> Result<(), Stop> {
+        match raw::system(
+            &mut self.held,
+            {
+                let SystemOperation {
+                    op1,
+                    crn,
+                    crm,
+                    op2,
+                    rt,
+                } = operation;
+                [op1, crn, crm, op2, rt]
+            },
+            ram.base,
+            ram.bytes,
+        ) {
+            (DONE, _) => Ok(()),
+            (n, address) => Err(stop(n, Access::Write, address)),
+        }
+    }
+
+    /// How `pages` pages of 4 KiB from that of `first` on are mapped in the regime of the present level, by registers
+    /// and RAM as they are: the cache is not asked, and nothing changes. More than [`crate::MOST_PAGES`] pages are
+    /// refused, and a range that passes 2^64; it may end there.
+    pub fn census(&self, ram: &Ram, first: u64, pages: u64) -> Result<Census, Stop> {
+        match raw::census(&self.held, first, pages, ram.base, ram.bytes) {
+            (DONE, counts) => Ok(Census::of(&counts)),
+            (n, _) => Err(stop(n, Access::Read, first)),
+        }
+    }
+
+    /// Write a system register by its key ([`crate::registers`]): the register's mask applies, and the cache forgets
+    /// what the write unsettles.
+    pub fn write_register(&mut self, key: impl Into<Key>, value: u64) -> Result<(), Stop> {
+        done(raw::register(&mut self.held, key.into().into(), value))
+    }
+
+    /// Set the present exception level.
+    pub fn set_level(&mut self, level: impl Into<Level>) -> Result<(), Stop> {
+        done(raw::level(&mut self.held, level.into().into()))
+    }
+
+    /// Mark the accesses that follow as unprivileged (LDTR and STTR), or not.
+    pub fn set_unprivileged(&mut self, on: bool) -> Result<(), Stop> {
+        done(raw::mark(&mut self.held, on.into()))
+    }
+
+    /// Set a general register, X0 to X30; 31 is the zero register and takes nothing.
+    pub fn set_general(&mut self, number: u64, value: u64) -> Result<(), Stop> {
+        done(raw::general(&mut self.held, number, value))
+    }
+
+    /// Take an exception: it is routed by SCR_EL3 and HCR_EL2; ELR, SPSR, ESR and FAR are written, the level and the PC
+    /// are those of the vector.
+    pub fn take(&mut self, exception: &Exception) -> Result<(), Stop> {
+        done(raw::abort(&mut self.held, &of_exception(exception)))
+    }
+}

@@ -1,0 +1,168 @@
+// Written by tools/plain from crates/call_words/src/op.rt: change that.
+//! A call as words.
+
+use crate::stage1::cpu::call::Call;
+use crate::stage1::exception::kind::{DataAbort, Exception, InsnAbort};
+use crate::stage1::system::decode::Encoding;
+use crate::stage1::tlb::access::Kind;
+
+/// What a word names, or nothing.
+#[derive(Clone, Copy, Debug, PartialEq, Eq)]
+pub enum DecodedException {
+    Known(Exception),
+    Unknown,
+}
+
+#[derive(Clone, Copy, Debug, PartialEq, Eq)]
+pub enum DecodedCall {
+    Known(Call),
+    Unknown,
+}
+
+#[inline]
+fn data_abort_of(addr: u64, write: u64, fsc: u64) -> DecodedException {
+    if fsc < 256 {
+        let fault = crate::stage1::fault::first(fsc as u8);
+        match write {
+            0 => DecodedException::Known(Exception::DataAbort(DataAbort {
+                addr,
+                write: false,
+                fault,
+            })),
+            1 => DecodedException::Known(Exception::DataAbort(DataAbort {
+                addr,
+                write: true,
+                fault,
+            })),
+            _ => DecodedException::Unknown,
+        }
+    } else {
+        DecodedException::Unknown
+    }
+}
+
+#[inline]
+fn insn_abort_of(addr: u64, fsc: u64) -> DecodedException {
+    if fsc < 256 {
+        let fault = crate::stage1::fault::first(fsc as u8);
+        DecodedException::Known(Exception::InsnAbort(InsnAbort { addr, fault }))
+    } else {
+        DecodedException::Unknown
+    }
+}
+
+/// An exception whose words are in range.
+#[inline]
+fn in_range(ok: bool, e: Exception) -> DecodedException {
+    if ok {
+        DecodedException::Known(e)
+    } else {
+        DecodedException::Unknown
+    }
+}
+
+/// 0 Undefined; 1 SVC, 2 HVC, 3 SMC, 4 BRK, each with its immediate, of 16 bits; 5 data abort with address, write and
+/// status; 6 instruction abort with address and status; 7 PC alignment. Words out of range name nothing.
+#[inline]
+pub fn exception_of(code: u64, a: u64, b: u64, c: u64) -> DecodedException {
+    let ok = a < 0x1_0000;
+    let imm = (a % 0x1_0000) as u16;
+    match code {
+        0 => DecodedException::Known(Exception::Undefined),
+        1 => in_range(ok, Exception::Svc(imm)),
+        2 => in_range(ok, Exception::Hvc(imm)),
+        3 => in_range(ok, Exception::Smc(imm)),
+        4 => in_range(ok, Exception::Brk(imm)),
+        5 => data_abort_of(a, b, c),
+        6 => insn_abort_of(a, b),
+        7 => DecodedException::Known(Exception::PcAlignment),
+        _ => DecodedException::Unknown,
+    }
+}
+
+/// The four words that name an exception.
+#[inline]
+pub fn words_of(e: Exception) -> [u64; 4] {
+    match e {
+        Exception::Undefined => [0, 0, 0, 0],
+        Exception::Svc(imm) => [1, imm as u64, 0, 0],
+        Exception::Hvc(imm) => [2, imm as u64, 0, 0],
+        Exception::Smc(imm) => [3, imm as u64, 0, 0],
+        Exception::Brk(imm) => [4, imm as u64, 0, 0],
+        Exception::DataAbort(a) => {
+            if a.write {
+                [5, a.addr, 1, a.fault.fsc as u64]
+            } else {
+                [5, a.addr, 0, a.fault.fsc as u64]
+            }
+        }
+        Exception::InsnAbort(a) => [6, a.addr, a.fault.fsc as u64, 0],
+        Exception::PcAlignment => [7, 0, 0, 0],
+    }
+}
+
+#[inline]
+fn translate_of(kind: u64, va: u64) -> DecodedCall {
+    match Kind::try_from(kind) {
+        Ok(kind) => DecodedCall::Known(Call::Translate(kind, va)),
+        Err(_) => DecodedCall::Unknown,
+    }
+}
+
+#[inline]
+fn mark_of(word: u64) -> DecodedCall {
+    match word {
+        0 => DecodedCall::Known(Call::Mark(false)),
+        1 => DecodedCall::Known(Call::Mark(true)),
+        _ => DecodedCall::Unknown,
+    }
+}
+
+/// A key that no 32 bits hold is that of no register.
+#[inline]
+pub fn key_of(word: u64) -> u32 {
+    if word < 0x1_0000_0000 { word as u32 } else { 0 }
+}
+
+#[inline]
+fn abort_of(code: u64, a: u64, b: u64, c: u64) -> DecodedCall {
+    match exception_of(code, a, b, c) {
+        DecodedException::Known(e) => DecodedCall::Known(Call::Abort(e)),
+        DecodedException::Unknown => DecodedCall::Unknown,
+    }
+}
+
+/// The call that eight words name.
+#[inline]
+pub fn call_of(op: &[u64; 8]) -> DecodedCall {
+    let a = op[1];
+    let b = op[2];
+    let c = op[3];
+    let d = op[4];
+    let e = op[5];
+    match op[0] {
+        1 => translate_of(a, b),
+        2 => DecodedCall::Known(Call::DataPa(a)),
+        3 => DecodedCall::Known(Call::FetchPa(a)),
+        4 => DecodedCall::Known(Call::Load(a, b)),
+        5 => DecodedCall::Known(Call::Store(a, b, c)),
+        6 => DecodedCall::Known(Call::Fetch(a)),
+        7 => DecodedCall::Known(Call::System(Encoding {
+            op1: a,
+            crn: b,
+            crm: c,
+            op2: d,
+            rt: e,
+        })),
+        8 => {
+            let key = key_of(a);
+            DecodedCall::Known(Call::Register(key, b))
+        }
+        9 => DecodedCall::Known(Call::Level(a)),
+        10 => mark_of(a),
+        11 => DecodedCall::Known(Call::General(a, b)),
+        12 => abort_of(a, b, c, d),
+        13 => DecodedCall::Known(Call::Census(a, b)),
+        _ => DecodedCall::Unknown,
+    }
+}

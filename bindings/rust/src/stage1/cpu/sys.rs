@@ -1,0 +1,58 @@
+// Written by tools/plain from crates/cpu/src/sys.rt: change that.
+//! System operations on the core.
+
+use crate::stage1::cpu::Core;
+use crate::stage1::exception::kind::{Exception, Stop};
+use crate::stage1::system::decode::{AtForm, Encoding, SysOp};
+use crate::stage1::system::{decode, par, tlbi};
+use crate::stage1::word::ram::Width;
+
+impl Core {
+    /// AT: a fresh walk into PAR_EL1.
+    #[inline(always)]
+    pub fn at(&mut self, base: u64, ram: &[u8], form: AtForm, va: u64) {
+        let mair = self.sys.mair[form.regime.index()];
+        self.sys.par_el1 = par::at(&self.control, mair, form, va, base, ram);
+    }
+
+    /// TLBI; the Inner Shareable forms reach the other cores.
+    #[inline]
+    pub fn tlbi(&mut self, e: Encoding, x: u64) {
+        let what = tlbi::tlbi(&self.control, e, x);
+        self.tlb.invalidate(what);
+        if e.crm == 3 {
+            self.tlb.broadcast(what);
+        }
+    }
+
+    /// The n stores of a zeroing from va on, up to the first that stops.
+    #[inline]
+    fn zero_from(&mut self, base: u64, ram: &mut [u8], va: u64, n: u64) -> Result<(), Stop> {
+        if n == 0 {
+            return Ok(());
+        }
+        self.write(base, ram, va, Width::Double, 0)?;
+        self.zero_from(base, ram, va.wrapping_add(8), n - 1)
+    }
+
+    /// DC ZVA: 64 bytes, aligned.
+    #[inline]
+    pub fn zva(&mut self, base: u64, ram: &mut [u8], x: u64) -> Result<(), Stop> {
+        self.zero_from(base, ram, x & !63, 8)
+    }
+
+    /// A system operation.
+    #[inline]
+    pub fn sys(&mut self, base: u64, ram: &mut [u8], e: Encoding) -> Result<(), Stop> {
+        let x = self.reg(e.rt);
+        match decode::decode(self.privilege.level, e) {
+            SysOp::At(form) => self.at(base, ram, form, x),
+            SysOp::Tlbi => self.tlbi(e, x),
+            SysOp::Zva => return self.zva(base, ram, x),
+            SysOp::Nothing => {}
+            SysOp::Undefined => return Err(Stop::Exception(Exception::Undefined)),
+            SysOp::Unimplemented => return Err(Stop::Unimplemented),
+        }
+        Ok(())
+    }
+}

@@ -1,0 +1,25 @@
+// Written by tools/plain from crates/quick/src/hint.rt: change that.
+//! Where the data hint sends an access at once. Kind, level, mark, window and key are one condition, so that few jumps are
+//! taken, and what only the rest of a call needs is laid out there.
+
+use crate::stage1::cpu::Core;
+use crate::stage1::tlb::access::Kind;
+use crate::stage1::tlb::hint;
+use crate::stage1::tlb::hint::Hint;
+
+#[inline(always)]
+fn hint_at(core: &Core, slot: usize) -> Hint {
+    core.tlb.hints[slot]
+}
+
+/// By a kind's number, 1 read or 2 write: nothing where a check or the kind has to be asked by name.
+#[inline(always)]
+pub(crate) fn served(core: &Core, va: u64, kind: u64, base: u64, len: u64) -> Option<u64> {
+    // level and mark in one number: at most 3 where the level is known and nothing is marked
+    let asker = core.privilege.level as u64 + (core.privilege.unprivileged as u64) * 256;
+    let slot = hint::data_slot(va, Kind::Read) + (kind / 2 % 2) as usize * hint::DATA_HINTS;
+    let found = hint_at(core, slot);
+    let serves = ((kind == 1) | (kind == 2))
+        & ((found.key == va - va % 4096 + asker) & ((asker <= 3) & (base <= u64::MAX - len)));
+    serves.then_some(hint::on_page(found.pa, va))
+}

@@ -1,0 +1,130 @@
+// Written by tools/plain from crates/quick/src/load.rt: change that.
+//! A load on a core that is lent: its number, and its value in ans.
+
+use crate::stage1::call_words::reply;
+use crate::stage1::cpu::call::Reply;
+use crate::stage1::cpu::{Core, check, place};
+use crate::stage1::fault::Fault;
+use crate::stage1::quick::instance::Datum;
+use crate::stage1::quick::split;
+use crate::stage1::tlb::access::Kind;
+use crate::stage1::word::ram;
+use crate::stage1::word::ram::Width;
+
+/// The core's own load, for what is not served at once.
+#[cold]
+#[inline(never)]
+fn own(core: &mut Core, va: u64, width: Width, ans: &mut u64, base: u64, ram: &[u8]) -> u64 {
+    let r = Reply::from(core.read(base, ram, va, width));
+    reply::answer(r, ans)
+}
+
+/// Any size, and a window that ends at 2^64 or past it: the checks by name.
+#[cold]
+#[inline(never)]
+fn checked(core: &mut Core, va: u64, size: u64, ans: &mut u64, base: u64, ram: &[u8]) -> u64 {
+    match check::sized(core.privilege.level, base, ram.len() as u64, size) {
+        Ok(width) => own(core, va, width, ans, base, ram),
+        Err(missed) => missed.number() as u64,
+    }
+}
+
+/// Two pages: at once by both hints, or by the core's own load.
+#[inline(never)]
+fn pages<W: Datum>(core: &mut Core, va: u64, ans: &mut u64, base: u64, ram: &[u8]) -> u64 {
+    if let Some((first, v)) = split::load(core, va, W::WIDTH, base, ram) {
+        core.last_pa = first;
+        *ans = v;
+        return 0;
+    }
+    own(core, va, W::WIDTH, ans, base, ram)
+}
+
+/// The end of a load of one page, after its translation.
+#[inline(always)]
+fn ended<W: Datum>(
+    core: &mut Core,
+    va: u64,
+    answer: Result<u64, Fault>,
+    ans: &mut u64,
+    base: u64,
+    ram: &[u8],
+) -> u64 {
+    match answer {
+        Ok(pa) => {
+            core.last_pa = pa;
+            match ram::read(base, ram, W::WIDTH, pa) {
+                Some(v) => {
+                    *ans = v;
+                    0
+                }
+                None => {
+                    core.abort_pa = pa;
+                    *ans = va;
+                    272
+                }
+            }
+        }
+        Err(fault) => {
+            *ans = va;
+            256 + fault.fsc as u64
+        }
+    }
+}
+
+/// By a walk.
+#[inline(never)]
+fn by_walk<W: Datum>(core: &mut Core, va: u64, ans: &mut u64, base: u64, ram: &[u8]) -> u64 {
+    let answer = core.by_walk(base, ram, va, Kind::Read);
+    ended::<W>(core, va, answer, ans, base, ram)
+}
+
+#[inline(never)]
+fn past_hint<W: Datum>(core: &mut Core, va: u64, ans: &mut u64, base: u64, ram: &[u8]) -> u64 {
+    match core.at_hand(base, ram, va, Kind::Read) {
+        Some(answer) => ended::<W>(core, va, answer, ans, base, ram),
+        None => by_walk::<W>(core, va, ans, base, ram),
+    }
+}
+
+#[inline(always)]
+fn by_hint<W: Datum>(core: &mut Core, va: u64, ans: &mut u64, base: u64, ram: &[u8]) -> u64 {
+    if place::in_page(va) < W::WIDTH.bytes() {
+        return pages::<W>(core, va, ans, base, ram);
+    }
+    match core.tlb.by_hint(core.privilege, va, Kind::Read) {
+        Some(pa) => ended::<W>(core, va, Ok(pa), ans, base, ram),
+        None => past_hint::<W>(core, va, ans, base, ram),
+    }
+}
+
+#[inline(always)]
+fn load_as<W: Datum>(core: &mut Core, va: u64, ans: &mut u64, base: u64, ram: &[u8]) -> u64 {
+    if 3 < core.privilege.level {
+        checked(core, va, W::WIDTH.bytes(), ans, base, ram)
+    } else if u64::MAX - (ram.len() as u64) < base {
+        checked(core, va, W::WIDTH.bytes(), ans, base, ram)
+    } else {
+        by_hint::<W>(core, va, ans, base, ram)
+    }
+}
+
+/// A load of 1, 2, 4 or 8 bytes. The tests come in this order for the sake of the commonest size.
+#[inline]
+pub fn load(core: &mut Core, va: u64, size: u64, ans: &mut u64, base: u64, ram: &[u8]) -> u64 {
+    if 4 < size {
+        if size == 8 {
+            load_as::<u64>(core, va, ans, base, ram)
+        } else {
+            checked(core, va, size, ans, base, ram)
+        }
+    } else if size == 4 {
+        load_as::<u32>(core, va, ans, base, ram)
+    } else if size == 2 {
+        load_as::<u16>(core, va, ans, base, ram)
+    } else if size == 1 {
+        load_as::<u8>(core, va, ans, base, ram)
+    } else {
+        checked(core, va, size, ans, base, ram)
+    }
+}

@@ -1,0 +1,51 @@
+// Written by tools/plain from crates/quick/src/split.rt: change that.
+//! Loads and stores over two pages whose hints both serve and whose bytes lie in RAM.
+
+use crate::stage1::cpu::place::Pages;
+use crate::stage1::cpu::{Core, place};
+use crate::stage1::quick::at_once;
+use crate::stage1::tlb::access::Kind;
+use crate::stage1::word::ram::Width;
+
+/// The value of a load over two pages whose hints both serve and whose bytes lie in RAM, and where its first byte lies.
+#[inline(always)]
+pub(crate) fn load(core: &Core, va: u64, width: Width, base: u64, ram: &[u8]) -> Option<(u64, u64)> {
+    let on = core.bank().stage1_on(core.regime());
+    if place::crosses(on, va, width.bytes()) {
+        if let Some(pa) = core.tlb.by_hint(core.privilege, va, Kind::Read) {
+            let next = place::next_page(va);
+            if let Some(pa2) = core.tlb.by_hint(core.privilege, next, Kind::Read) {
+                let in_page = place::in_page(va);
+                if let Some(v) = at_once::read_both(base, ram, Pages { in_page, pa, pa2 }, width.bytes()) {
+                    return Some((pa, v));
+                }
+            }
+        }
+    }
+    None
+}
+
+/// The bytes of a store over two pages, where all lie in RAM by one test, and whether it was made.
+#[inline(always)]
+fn put_both(base: u64, ram: &mut [u8], p: Pages, width: Width, value: u64) -> bool {
+    match width {
+        Width::Half => at_once::write_pair(base, ram, p.pa, p.pa2, value),
+        Width::Byte | Width::Word | Width::Double => at_once::write_both(base, ram, p, width.bytes(), value),
+    }
+}
+
+/// A store over two pages whose hints both serve and whose bytes lie in RAM, and whether it was made.
+#[inline(always)]
+pub(crate) fn store(core: &Core, va: u64, width: Width, value: u64, base: u64, ram: &mut [u8]) -> bool {
+    let on = core.bank().stage1_on(core.regime());
+    if place::crosses(on, va, width.bytes()) {
+        if let Some(pa) = core.tlb.by_hint(core.privilege, va, Kind::Write) {
+            let next = place::next_page(va);
+            if let Some(pa2) = core.tlb.by_hint(core.privilege, next, Kind::Write) {
+                let in_page = place::in_page(va);
+                return put_both(base, ram, Pages { in_page, pa, pa2 }, width, value);
+            }
+        }
+    }
+    false
+}

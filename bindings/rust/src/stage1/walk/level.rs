@@ -1,0 +1,152 @@
+// Written by tools/plain from crates/walk/src/level.rt: change that.
+//! One level of a walk: where its descriptor lies, and what the descriptor says.
+
+use crate::stage1::walk::descriptor;
+use crate::stage1::walk::descriptor::Descriptor;
+use crate::stage1::walk::fsc::{FSC_ACCESS_FLAG, FSC_ADDR_SIZE, FSC_TRANSLATION, FSC_WALK_EXTERNAL};
+use crate::stage1::walk::rights::Permissions;
+use crate::stage1::word::ram::Width;
+use crate::stage1::word::{bits, ram};
+
+/// What the registers say of every level.
+#[derive(Clone, Copy, Debug, PartialEq, Eq)]
+pub struct Params {
+    /// A granule of 64 KiB, and not of 4 KiB.
+    pub largegrain: bool,
+    /// How many bits an output address may have.
+    pub outputsize: u64,
+    /// The regime has one privilege level and one range.
+    pub singlepriv: bool,
+    /// `SCTLR_ELx.WXN`.
+    pub wxn: bool,
+}
+
+/// Where a walk stands.
+#[derive(Clone, Copy, Debug, PartialEq, Eq)]
+pub struct WalkState {
+    /// The bits of all table descriptors passed, whose hierarchical attributes add up.
+    pub tables: u64,
+    /// The address of the table.
+    pub table: u64,
+    /// The address bit above those that index the table, and the lowest of these.
+    pub top: u64,
+    pub lsb: u64,
+    pub level: u8,
+}
+
+/// A block or page descriptor, with the attributes of the tables above it.
+#[derive(Clone, Copy, Debug, PartialEq, Eq)]
+pub struct Leaf {
+    /// The output address.
+    pub oa: u64,
+    pub desc: u64,
+    /// EL0's rights in bits 0 to 2, the regime's own in bits 3 to 5: read, write, fetch.
+    pub perms: u8,
+    pub level: u8,
+    /// nG clear: the same for every ASID.
+    pub global: bool,
+}
+
+/// What a walk ends in: a leaf, or a fault status code.
+pub type Walked = Result<Leaf, u8>;
+
+/// What a level's descriptor leads to: the next level, or the walk's end.
+#[derive(Clone, Copy, Debug, PartialEq, Eq)]
+pub enum Step {
+    Next(WalkState),
+    Leaf(Leaf),
+    Fault(u8),
+}
+
+/// log2 of the granule's bytes.
+#[inline(always)]
+fn granule(largegrain: bool) -> u64 {
+    if largegrain { 16 } else { 12 }
+}
+
+/// The lowest address bit that indexes a table of the level.
+#[inline(always)]
+pub(crate) fn lsb_of(largegrain: bool, level: u64) -> u64 {
+    let granule = granule(largegrain);
+    granule + (granule - 3) * (3 - level)
+}
+
+/// The address of the descriptor that va selects.
+#[inline(always)]
+pub(crate) fn descriptor_address(p: Params, w: WalkState, va: u64) -> u64 {
+    let skip = 64 - w.top;
+    let index = (va << skip) >> (skip + w.lsb);
+    w.table + index * 8
+}
+
+/// A table descriptor: the next level, unless the table lies beyond the output size.
+#[inline(always)]
+fn table_step(p: Params, w: WalkState, desc: Descriptor) -> Step {
+    if descriptor::beyond(desc.0, p.outputsize) {
+        return Step::Fault(FSC_ADDR_SIZE | w.level);
+    }
+    let granule = granule(p.largegrain);
+    Step::Next(WalkState {
+        tables: w.tables | desc.0,
+        table: descriptor::address(desc.0, granule),
+        top: w.lsb,
+        lsb: w.lsb - (granule - 3),
+        level: w.level + 1,
+    })
+}
+
+/// The attributes of a leaf that decide permission.
+#[inline(always)]
+fn permissions(p: Params, w: WalkState, desc: Descriptor) -> Permissions {
+    let two = !p.singlepriv;
+    let tables = Descriptor(w.tables);
+    Permissions {
+        ap2: desc.ap2() || tables.ap_table1(),
+        ap1: p.singlepriv || (desc.ap1() && !tables.ap_table0()),
+        xn: desc.uxn() || tables.uxn_table(),
+        pxn: two && (desc.pxn() || tables.pxn_table()),
+    }
+}
+
+/// A block or page descriptor: the leaf, unless blocks are not allowed there, its output lies beyond the output size,
+/// or its access flag is clear.
+#[inline(always)]
+fn leaf_step(p: Params, w: WalkState, va: u64, desc: Descriptor) -> Step {
+    let first_block_level = if p.largegrain { 2 } else { 1 };
+    if w.level < first_block_level {
+        return Step::Fault(FSC_TRANSLATION | w.level);
+    }
+    if descriptor::beyond(desc.0, p.outputsize) {
+        return Step::Fault(FSC_ADDR_SIZE | w.level);
+    }
+    if !desc.af() {
+        return Step::Fault(FSC_ACCESS_FLAG | w.level);
+    }
+    let frame = descriptor::address(desc.0, w.lsb);
+    let offset = bits::low_bits(va, w.lsb);
+    Step::Leaf(Leaf {
+        oa: frame + offset,
+        desc: desc.0,
+        perms: permissions(p, w, desc).byte(p.singlepriv, p.wxn),
+        level: w.level,
+        global: p.singlepriv || !desc.not_global(),
+    })
+}
+
+/// What the descriptor of the level leads to.
+#[inline(always)]
+pub(crate) fn lookup(p: Params, w: WalkState, va: u64, base: u64, ram: &[u8]) -> Step {
+    let at = descriptor_address(p, w, va);
+    let desc = match ram::read(base, ram, Width::Double, at) {
+        Some(word) => Descriptor(word),
+        None => return Step::Fault(FSC_WALK_EXTERNAL | w.level),
+    };
+    let table = desc.table_or_page();
+    if !desc.valid() || (w.level == 3 && !table) {
+        Step::Fault(FSC_TRANSLATION | w.level)
+    } else if w.level < 3 && table {
+        table_step(p, w, desc)
+    } else {
+        leaf_step(p, w, va, desc)
+    }
+}

@@ -1,0 +1,91 @@
+// Written by tools/plain from crates/word/src/ram.rt: change that.
+//! RAM as a lent window: its first address, and its bytes. An access is 1, 2, 4 or 8 bytes, little-endian, and has all
+//! of its bytes in the window or moves none.
+
+/// How many bytes an access moves.
+#[derive(Clone, Copy, Debug, PartialEq, Eq)]
+pub enum Width {
+    Byte = 1,
+    Half = 2,
+    Word = 4,
+    Double = 8,
+}
+
+impl Width {
+    /// The width of a size: 1, 2, 4 or 8.
+    #[inline(always)]
+    pub fn of_size(size: u64) -> Option<Self> {
+        match size {
+            1 => Some(Width::Byte),
+            2 => Some(Width::Half),
+            4 => Some(Width::Word),
+            8 => Some(Width::Double),
+            _ => None,
+        }
+    }
+
+    /// The size of a width.
+    #[inline(always)]
+    pub fn bytes(self) -> u64 {
+        self as u64
+    }
+}
+
+/// Whether all `n` bytes from the address `pa` lie in a window of `len` bytes from `base`. The sum of address and size
+/// does not wrap.
+#[inline(always)]
+pub fn inside(base: u64, len: u64, n: u64, pa: u64) -> bool {
+    base <= pa && n <= len && pa - base <= len - n
+}
+
+/// The value of a width's bytes from at, the lowest first (pimu's `load_le`).
+#[inline(always)]
+fn load_le(ram: &[u8], width: Width, at: usize) -> u64 {
+    let b = &ram[at..];
+    match width {
+        Width::Byte => u64::from(b[0]),
+        Width::Half => u64::from(u16::from_le_bytes([b[0], b[1]])),
+        Width::Word => u64::from(u32::from_le_bytes([b[0], b[1], b[2], b[3]])),
+        Width::Double => u64::from_le_bytes([b[0], b[1], b[2], b[3], b[4], b[5], b[6], b[7]]),
+    }
+}
+
+/// The value at the physical address `pa`, or nothing where a byte of it lies outside the window.
+#[inline(always)]
+pub fn read(base: u64, ram: &[u8], width: Width, pa: u64) -> Option<u64> {
+    if inside(base, ram.len() as u64, width.bytes(), pa) {
+        Some(load_le(ram, width, (pa - base) as usize))
+    } else {
+        None
+    }
+}
+
+/// The bytes of a value over all of a part, the lowest first.
+#[inline(always)]
+fn put_bytes(part: &mut [u8], value: u64) {
+    let mut v = value;
+    let mut i = 0;
+    while i < part.len() {
+        part[i] = (v % 256) as u8;
+        v = v / 256;
+        i += 1;
+    }
+}
+
+/// A store of the `n` low bytes of a value at the physical address `pa`: all of them, or none where a byte lies outside
+/// the window. Whether it was made.
+#[inline(always)]
+pub fn write_bytes(base: u64, ram: &mut [u8], n: u64, pa: u64, value: u64) -> bool {
+    let fits = inside(base, ram.len() as u64, n, pa);
+    if fits {
+        let at = (pa - base) as usize;
+        put_bytes(&mut ram[at..at + n as usize], value);
+    }
+    fits
+}
+
+/// A store of a width's bytes.
+#[inline(always)]
+pub fn write(base: u64, ram: &mut [u8], width: Width, pa: u64, value: u64) -> bool {
+    write_bytes(base, ram, width.bytes(), pa, value)
+}
