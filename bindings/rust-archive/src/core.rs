@@ -136,7 +136,8 @@ impl Core {
         }
     }
 
-    /// Load from `va`, zero-extended; over two pages where it crosses the end of one.
+    /// Load from `va`, zero-extended; over two pages where it crosses the end of one. A fault's address is then the lowest
+    /// failing byte's: the first page's bytes outside RAM come before a fault of the second.
     #[inline]
     pub fn load(&mut self, ram: &Ram, va: u64, width: Width) -> Result<u64, Stop> {
         self.load_bytes(ram, va, width as u64)
@@ -151,7 +152,8 @@ impl Core {
         }
     }
 
-    /// Store the low bytes of a value at `va`. Both pages are translated before either is written.
+    /// Store the low bytes of a value at `va`. Both pages are translated before either is written. A fault's address is then
+    /// the lowest failing byte's: the first page's bytes outside RAM come before a fault of the second.
     #[inline]
     pub fn store(&mut self, ram: &mut Ram, va: u64, width: Width, value: u64) -> Result<(), Stop> {
         self.store_bytes(ram, va, width as u64, value)
