@@ -123,7 +123,7 @@ fn fresh(core: &Core, base: u64, ram: &[u8], kind: Kind, va: u64) -> Result<u64,
     let regime = Regime::of_level(core.privilege.level);
     let bank = core.bank();
     if !bank.stage1_on(regime) {
-        return access::flat(bank, regime, va);
+        return access::flat(&bank, regime, va);
     }
     let leaf = bank
         .walk(regime, bank.untag(regime, va), base, ram)

@@ -77,13 +77,13 @@ pub fn tag_of(regime: Regime, va: u64) -> u64
 
 /// The answer to `va` with stage 1 off: the address without its tag, or an address size fault of level 0. One that is
 /// small as it stands has no tag to drop.
-pub fn flat(bank: Bank, regime: Regime, va: u64) -> Result<u64, Fault>
-    ensures { result ≡ flat_answer (untagged bank.tcr regime va) }
+pub fn flat(bank: &Bank, regime: Regime, va: u64) -> Result<u64, Fault>
+    ensures { result ≡ flat_answer (untagged bank.now.tcr regime va) }
 {
     if let Some(pa) = flat_of(va) {
         return Ok(pa);
     }
-    flat_of(bank.untag(regime, va)).ok_or(fault::first(FSC_ADDR_SIZE))
+    bank.flat(regime, va).ok_or(fault::first(FSC_ADDR_SIZE))
 }
 
 impl Privilege {

@@ -44,13 +44,17 @@ impl Tlb {
         ensures after { AfterHanded (asked a (word_at base ram.now 8)) self.old result self.new }
     {
         let regime = Regime::of_level(a.privilege.level);
-        let answer = if a.bank.stage1_on(regime) {
+        let answer = if !a.bank.stage1_on(regime) {
+            // A fault leaves by its own exit, so that an entry pays nothing for it.
+            match access::flat(&a.bank, regime, a.va) {
+                Ok(pa) => Ok(pa),
+                Err(fault) => return Some(Err(fault)),
+            }
+        } else {
             let va = a.bank.untag(regime, a.va);
             let e = self.get(access::tag_of(regime, va))?;
             self.count_hit(a.privilege.level);
             e.judge(a.privilege.is_user(regime, a.kind), a.kind, a.va)
-        } else {
-            access::flat(a.bank, regime, a.va)
         };
         self.leave_hint(a, answer);
         Some(answer)
@@ -71,7 +75,8 @@ impl Tlb {
         let regime = Regime::of_level(a.privilege.level);
         let va = a.bank.untag(regime, a.va);
         self.count_walk(a.privilege.level);
-        let leaf = a.bank.walk(regime, va, base, ram).map_err(fault::first)?;
+        let bank = a.bank;
+        let leaf = bank.walk(regime, va, base, ram).map_err(fault::first)?;
         let e = Entry::new(leaf, self.asid, access::tag_of(regime, va));
         self.put(e);
         let answer = e.judge(a.privilege.is_user(regime, a.kind), a.kind, a.va);

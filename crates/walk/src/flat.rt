@@ -1,6 +1,10 @@
 // The physical address with stage 1 off.
 ghost use Rattle.std.specs.Prelude.{◌≡◌};
 ghost use Rattle.walk.specs.Flat.{flat_by};
+ghost use Rattle.walk.specs.Tag.{untagged};
+
+use crate::regime::Bank;
+use sysreg::regs::Regime;
 
 /// The implemented size of a physical address, in bits (`ID_AA64MMFR0_EL1.PARange`).
 const PA_BITS: u32 = 44;
@@ -11,4 +15,13 @@ pub fn flat_of(untagged: u64) -> Option<u64>
     ensures { result ≡ flat_by untagged }
 {
     (untagged >> PA_BITS == 0).then_some(untagged)
+}
+
+impl Bank {
+    /// The physical address of `va`, tag and all, with stage 1 off.
+    pub fn flat(&self, regime: Regime, va: u64) -> Option<u64>
+        ensures { result ≡ flat_by (untagged self.now.tcr regime va) }
+    {
+        flat_of(self.untag(regime, va))
+    }
 }

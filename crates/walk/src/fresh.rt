@@ -3,7 +3,6 @@ ghost use Rattle.std.specs.Prelude.{◌≡◌};
 ghost use Rattle.word.specs.Ram.{word_at};
 ghost use Rattle.walk.specs.Fresh.{fresh_of};
 
-use crate::flat;
 use crate::fsc::FSC_ADDR_SIZE;
 use crate::level::Walked;
 use crate::regime::Bank;
@@ -18,15 +17,15 @@ pub enum Fresh {
 
 impl Bank {
     /// The fresh answer of `va`, tag and all, in the regime, over the RAM that starts at `base`.
+    #[inline(always)]
     #[tactic(auto, unfolding(crate::specs::Fresh::fresh_of))]
     pub fn fresh(self, regime: Regime, va: u64, base: u64, ram: &[u8]) -> Fresh
         ensures { result ≡ fresh_of self regime va (word_at base ram.now 8) }
     {
-        let untagged = self.untag(regime, va);
         if self.stage1_on(regime) {
-            Fresh::Ended(self.walk(regime, untagged, base, ram))
+            Fresh::Ended(self.walk(regime, self.untag(regime, va), base, ram))
         } else {
-            match flat::flat_of(untagged) {
+            match self.flat(regime, va) {
                 Some(pa) => Fresh::Flat(pa),
                 None => Fresh::Ended(Err(FSC_ADDR_SIZE)),
             }

@@ -85,7 +85,7 @@ pub fn explain<W: Write>(
         write!(out, "{steps}")?;
         Told::of_walk(core, steps.answer, regime, kind, va)
     } else {
-        let flat = access::flat(bank, regime, va);
+        let flat = access::flat(&bank, regime, va);
         writeln!(
             out,
             "stage 1 is off: {}",

@@ -6,8 +6,8 @@ pub levels-init : goal.levels-init
 levels-init c =
     let g = c.range-g.ensures in
     let p = c.params-p.ensures.value in (
-      begins-standing c.args.self c.args.regime c.args.va _ _ _ _ g p c.begin.ensures c.in_ok-w.was,
-      walk_begun c.args.self c.args.regime c.args.va (word_at c.args.base c.args.ram.now 8) _ _ _ g p c.begin.ensures _ c.in_ok-w.was,
+      begins-standing c.args.self.now c.args.regime c.args.va _ _ _ _ g p c.begin.ensures c.in_ok-w.was,
+      walk_begun c.args.self.now c.args.regime c.args.va (word_at c.args.base c.args.ram.now 8) _ _ _ g p c.begin.ensures _ c.in_ok-w.was,
     )
 
 pub levels-preserved : goal.levels-preserved
