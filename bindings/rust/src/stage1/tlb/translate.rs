@@ -34,13 +34,17 @@ impl Tlb {
     #[inline(always)]
     pub fn at_hand(&mut self, a: Request, base: u64, ram: &[u8]) -> Option<Result<u64, Fault>> {
         let regime = Regime::of_level(a.privilege.level);
-        let answer = if a.bank.stage1_on(regime) {
+        let answer = if !a.bank.stage1_on(regime) {
+            // A fault leaves by its own exit, so that an entry pays nothing for it.
+            match access::flat(&a.bank, regime, a.va) {
+                Ok(pa) => Ok(pa),
+                Err(fault) => return Some(Err(fault)),
+            }
+        } else {
             let va = a.bank.untag(regime, a.va);
             let e = self.get(access::tag_of(regime, va))?;
             self.count_hit(a.privilege.level);
             e.judge(a.privilege.is_user(regime, a.kind), a.kind, a.va)
-        } else {
-            access::flat(a.bank, regime, a.va)
         };
         self.leave_hint(a, answer);
         Some(answer)
@@ -53,8 +57,8 @@ impl Tlb {
         let regime = Regime::of_level(a.privilege.level);
         let va = a.bank.untag(regime, a.va);
         self.count_walk(a.privilege.level);
-        let leaf = a
-            .bank
+        let bank = a.bank;
+        let leaf = bank
             .walk(regime, va, base, ram)
             .map_err(crate::stage1::fault::first)?;
         let e = Entry::new(leaf, self.asid, access::tag_of(regime, va));

@@ -1,6 +1,9 @@
 // Written by tools/plain from crates/walk/src/flat.rt: change that.
 //! The physical address with stage 1 off.
 
+use crate::stage1::sysreg::regs::Regime;
+use crate::stage1::walk::regime::Bank;
+
 /// The implemented size of a physical address, in bits (`ID_AA64MMFR0_EL1.PARange`).
 const PA_BITS: u32 = 44;
 
@@ -9,4 +12,12 @@ const PA_BITS: u32 = 44;
 #[inline(always)]
 pub fn flat_of(untagged: u64) -> Option<u64> {
     (untagged >> PA_BITS == 0).then_some(untagged)
+}
+
+impl Bank {
+    /// The physical address of `va`, tag and all, with stage 1 off.
+    #[inline(always)]
+    pub fn flat(&self, regime: Regime, va: u64) -> Option<u64> {
+        flat_of(self.untag(regime, va))
+    }
 }

@@ -2,7 +2,6 @@
 //! How an address ends with nothing cached: what AT, the page census and every other look at the tables start from.
 
 use crate::stage1::sysreg::regs::Regime;
-use crate::stage1::walk::flat;
 use crate::stage1::walk::fsc::FSC_ADDR_SIZE;
 use crate::stage1::walk::level::Walked;
 use crate::stage1::walk::regime::Bank;
@@ -16,13 +15,12 @@ pub enum Fresh {
 
 impl Bank {
     /// The fresh answer of `va`, tag and all, in the regime, over the RAM that starts at `base`.
-    #[inline]
+    #[inline(always)]
     pub fn fresh(self, regime: Regime, va: u64, base: u64, ram: &[u8]) -> Fresh {
-        let untagged = self.untag(regime, va);
         if self.stage1_on(regime) {
-            Fresh::Ended(self.walk(regime, untagged, base, ram))
+            Fresh::Ended(self.walk(regime, self.untag(regime, va), base, ram))
         } else {
-            match flat::flat_of(untagged) {
+            match self.flat(regime, va) {
                 Some(pa) => Fresh::Flat(pa),
                 None => Fresh::Ended(Err(FSC_ADDR_SIZE)),
             }
