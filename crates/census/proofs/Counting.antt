@@ -5,7 +5,7 @@ use Rattle.word.specs.Bits.{wrap}
 use Rattle.walk.specs.declared.{regime.Bank.Bank}
 use Rattle.sysreg.specs.declared.regs.Regime.{Regime}
 use Rattle.walk.proofs.FreshLaws.{is-sound}
-use Rattle.census.specs.Tally.{at_most, one_more}
+use Rattle.census.proofs.TallyLaws.{at_most, one_more}
 use Rattle.census.specs.Count.{page_at, place_at, census_of}
 
 -- the address of the i-th page, as the code finds it

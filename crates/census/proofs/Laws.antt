@@ -16,7 +16,8 @@ use Rattle.walk.proofs.WalkBounds.{status-small}
 use Rattle.walk.specs.declared.{regime.Bank.Bank, fresh.Fresh.Fresh}
 use Rattle.sysreg.specs.declared.regs.Regime.{Regime}
 use Rattle.walk.specs.declared.fresh.Fresh.TheVariants.{Flat, Ended}
-use Rattle.census.specs.Tally.{how_many, total, many-same, many-none, many-joins, shift-eqb, adds-up, at_place}
+use Rattle.census.specs.Tally.{how_many, total}
+use Rattle.census.proofs.TallyLaws.{many-same, many-none, many-joins, shift-eqb, adds-up, at_place}
 use Rattle.census.specs.Count.{place_of, page_at, place_at, census_of}
 use Rattle.census.specs.Laws.{faults_with, has_rights, is_flat, NoStatus, end_at, census_count}
 

@@ -17,7 +17,7 @@ use Rattle.walk.specs.declared.fresh.Fresh.TheVariants.{Flat, Ended}
 use Rattle.walk.specs.WalkBounds.{SoundFresh}
 use Rattle.walk.proofs.WalkBounds.{status-small}
 use Rattle.walk.specs.declared.fresh.Fresh.{Fresh}
-use Rattle.census.specs.Tally.{many-none, shift-eqb}
+use Rattle.census.proofs.TallyLaws.{many-none, shift-eqb}
 use Rattle.census.specs.Count.{place_of, page_at}
 use Rattle.census.specs.Laws.{census_count, end_at}
 use Rattle.census.proofs.Laws.{count_at, sound-at}

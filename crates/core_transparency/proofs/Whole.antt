@@ -9,7 +9,7 @@ use Rattle.sysreg.specs.declared.{regs.Control.Control, regs.SysRegs.SysRegs, re
 use Rattle.sysreg.specs.declared.{regs.Register.Register}
 use Rattle.sysreg.specs.declared.regs.Regime.TheVariants.{El1, El2, El3}
 use Rattle.sysreg.specs.declared.regs.Register.TheVariants.{Sctlr, Tcr, Ttbr0, Mair, Vbar, Elr, Spsr, Esr, Far}
-use Rattle.exception.specs.Entry.{same_el, at_target, updated, entered_sys, enter_of, take_sync}
+use Rattle.exception.specs.Entry.{is_target, at_target, updated, entered_sys, enter_of, take_sync}
 use Rattle.system.specs.declared.decode.SysOp.{SysOp}
 use Rattle.cpu.specs.Bare.{Bare, bare_of}
 use Rattle.cpu.specs.declared.Core.{Core}
@@ -81,7 +81,7 @@ found-whole k s level (Some r) v w = go (level == 0) (in_control r)
 -- ABORT ENTRY
 
 target-whole : (el : Regime) (v : ℕ) (l : List ℕ) → placed l ≡ l → placed (at_target el v l) ≡ at_target el v l
-target-whole el v l e = bank-whole (λ (x : Regime) (h : ℕ). if same_el x el then v else h) l e
+target-whole el v l e = bank-whole (λ (x : Regime) (h : ℕ). if is_target el x then v else h) l e
 
 updated-whole : (el : Regime) (a : Option ℕ) (l : List ℕ) → placed l ≡ l → placed (updated el a l) ≡ updated el a l
 updated-whole el (Some v) l e = target-whole el v l e

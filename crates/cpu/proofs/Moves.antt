@@ -47,10 +47,6 @@ module _ (base : ℕ) (ram : List ℕ) (p : Pages) (n : ℕ) where
       let here : within base (length ram) 1 (byte_at p (i - 1)) ≡ true = l.each (i - 1) (omega arith) in
       rw (s, q, here, ← ep, ← eb, ← ev)
 
--- a byte of them has a place
-pub byte-in : (base len : ℕ) (p : Pages) (n i pa : ℕ) → Lie base len p n → 0 < i → i ≤ n → pa ≡ byte_at p (i - 1) → true ≡ within base len 1 pa
-byte-in base len p n i pa l h k ep = sym (ap (within base len 1) ep ∙ l.each (i - 1) (omega arith))
-
 -- bytes that were judged lie in RAM
 pub lie-judged : (base len : ℕ) (p : Pages) (n : ℕ) (d : Verdict) → d ≡ first_outside base len p 0 n → d ≡ Ok tt → Lie base len p n
 lie-judged base len p n d e q = record { each = λ i k. all-inside base len p 0 n (sym e ∙ q) i (omega arith) (omega arith) }

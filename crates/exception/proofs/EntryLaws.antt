@@ -11,11 +11,11 @@ use Rattle.sysreg.specs.declared.regs.Register.TheVariants.{Elr, Spsr, Esr, Far}
 use Rattle.exception.specs.declared.{kind.Exception.Exception, flags.Flags.Flags, route.Origin.Origin}
 use Rattle.exception.specs.declared.kind.Exception.TheVariants.{Undefined, Svc, Hvc, Smc, Brk, DataAbort, InsnAbort, PcAlignment}
 use Rattle.exception.specs.Route.{default_target, smc_trapped, call_target, target_el, generated, routed_to}
-use Rattle.exception.specs.Entry.{same_el, updated, entered_sys, given, register_after, of_entry, enter_of, origin_of, take_sync, EachEntry}
+use Rattle.exception.specs.Entry.{is_target, updated, entered_sys, given, register_after, of_entry, enter_of, origin_of, take_sync, EachEntry}
 
 -- a register of a bank that is updated
 updated_at : (target el : Regime) (v : Option ℕ) (l : List ℕ)
-    → slice_index (updated target v l) (index_of el) ≡ given v (same_el el target) (slice_index l (index_of el))
+    → slice_index (updated target v l) (index_of el) ≡ given v (is_target target el) (slice_index l (index_of el))
 updated_at target el None l = refl
 updated_at target El1 (Some v) l = refl
 updated_at target El2 (Some v) l = refl
@@ -33,7 +33,7 @@ module _ (s : SysRegs) (target : Regime) (esr far : Option ℕ) (spsr ret : ℕ)
   entered_at (Far el) = updated_at target el far s.far
   entered_at q = refl
 
-  given-kept : (el : Regime) (v : Option ℕ) (held : ℕ) → same_el el target ≡ false → given v (same_el el target) held ≡ held
+  given-kept : (el : Regime) (v : Option ℕ) (held : ℕ) → is_target target el ≡ false → given v (is_target target el) held ≡ held
   given-kept el (Some v) held n = simp n
   given-kept el None held n = refl
 

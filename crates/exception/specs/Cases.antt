@@ -35,11 +35,11 @@ masked sp = record { nzcv = 0; daif = 0x3C0; spsel = sp }
 
 -- the level, the PC, and ESR, FAR, ELR, SPSR of a level
 abbrev pub seen : Regime → Entered → List ℕ
-seen el n = n.level ∷ n.pc ∷ sys_at n.sys (Esr el) ∷ sys_at n.sys (Far el) ∷ sys_at n.sys (Elr el) ∷ sys_at n.sys (Spsr el) ∷ []
+seen r n = n.level ∷ n.pc ∷ sys_at n.sys (Esr r) ∷ sys_at n.sys (Far r) ∷ sys_at n.sys (Elr r) ∷ sys_at n.sys (Spsr r) ∷ []
 
 -- an exception at a level, with SCR_EL3 and HCR_EL2, and what is seen at a level
 abbrev pub entry : ℕ → Flags → ℕ → ℕ → Exception → Regime → List ℕ
-entry level f scr hcr e el = seen el (take_sync level f 0x8000 scr hcr registers e)
+entry level f scr hcr e r = seen r (take_sync level f 0x8000 scr hcr registers e)
 
 -- case 13 again, and entries of each kind
 pub record WorkedEntries : Type 0 where

@@ -5,7 +5,8 @@ use Rattle.word.specs.Bits.{wrap}
 use Rattle.sysreg.specs.Regs.{index_of, sys_at}
 use Rattle.sysreg.specs.Write.{bank}
 use Rattle.sysreg.specs.declared.{regs.Regime.Regime, regs.Register.Register, regs.SysRegs.SysRegs}
-use Rattle.sysreg.specs.declared.regs.Register.TheVariants.{Vbar, Elr, Spsr, Esr, Far}
+use Rattle.sysreg.specs.declared.regs.Register.TheVariants.{Sctlr, Tcr, Ttbr0, Ttbr1, Scr, Hcr}
+use Rattle.sysreg.specs.declared.regs.Register.TheVariants.{Mair, Vbar, Elr, Spsr, Esr, Far, Vpidr, Vmpidr, Par}
 use Rattle.exception.specs.declared.{kind.Exception.Exception, flags.Flags.Flags, route.Origin.Origin, route.Routed.Routed}
 use Rattle.exception.specs.Pstate.{daif_all, flags, spsr_of}
 use Rattle.exception.specs.Syndrome.{syndrome_of}
@@ -16,12 +17,12 @@ use Rattle.exception.specs.Route.{routed_to}
 abbrev pub vect_offset : ℕ → ℕ → Bool → ℕ
 vect_offset from to sp = if from == to then if sp then 0x200 else 0x000 else 0x400
 
-abbrev pub same_el : Regime → Regime → Bool
-same_el a b = index_of a == index_of b
+abbrev pub is_target : Regime → Regime → Bool
+is_target target r = index_of r == index_of target
 
 -- v at the target level, and at the others what they hold
 abbrev pub at_target : Regime → ℕ → List ℕ → List ℕ
-at_target target v l = bank (λ el held. if same_el el target then v else held) l
+at_target target v l = bank (λ r held. if is_target target r then v else held) l
 
 -- where a value is given
 abbrev pub updated : Regime → Option ℕ → List ℕ → List ℕ
@@ -45,19 +46,39 @@ given None same held = held
 
 -- register by register: what one holds after an entry, from what it held
 abbrev pub register_after : Regime → Option ℕ → Option ℕ → ℕ → ℕ → Register → ℕ → ℕ
-register_after target esr far spsr ret (Spsr el) held = if same_el el target then spsr else held
-register_after target esr far spsr ret (Elr el) held = if same_el el target then ret else held
-register_after target esr far spsr ret (Esr el) held = given esr (same_el el target) held
-register_after target esr far spsr ret (Far el) held = given far (same_el el target) held
-register_after target esr far spsr ret _ held = held
+register_after target esr far spsr ret (Spsr r) held = if is_target target r then spsr else held
+register_after target esr far spsr ret (Elr r) held = if is_target target r then ret else held
+register_after target esr far spsr ret (Esr r) held = given esr (is_target target r) held
+register_after target esr far spsr ret (Far r) held = given far (is_target target r) held
+register_after target esr far spsr ret (Mair r) held = held
+register_after target esr far spsr ret (Vbar r) held = held
+register_after target esr far spsr ret Vpidr held = held
+register_after target esr far spsr ret Vmpidr held = held
+register_after target esr far spsr ret Par held = held
+register_after target esr far spsr ret (Sctlr r) held = held
+register_after target esr far spsr ret (Tcr r) held = held
+register_after target esr far spsr ret (Ttbr0 r) held = held
+register_after target esr far spsr ret Ttbr1 held = held
+register_after target esr far spsr ret Scr held = held
+register_after target esr far spsr ret Hcr held = held
 
 -- the registers that an entry may change: SPSR, ELR, ESR and FAR of its target
 abbrev pub of_entry : Regime → Register → Bool
-of_entry target (Spsr el) = same_el el target
-of_entry target (Elr el) = same_el el target
-of_entry target (Esr el) = same_el el target
-of_entry target (Far el) = same_el el target
-of_entry target _ = false
+of_entry target (Spsr r) = is_target target r
+of_entry target (Elr r) = is_target target r
+of_entry target (Esr r) = is_target target r
+of_entry target (Far r) = is_target target r
+of_entry target (Mair r) = false
+of_entry target (Vbar r) = false
+of_entry target Vpidr = false
+of_entry target Vmpidr = false
+of_entry target Par = false
+of_entry target (Sctlr r) = false
+of_entry target (Tcr r) = false
+of_entry target (Ttbr0 r) = false
+of_entry target Ttbr1 = false
+of_entry target Scr = false
+of_entry target Hcr = false
 
 -- PSTATE.SP = '1', PSTATE.<D,A,I,F> = '1111'; N, Z, C, V stay
 abbrev pub entry_flags : Flags → Flags

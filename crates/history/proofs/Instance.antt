@@ -1,7 +1,7 @@
 -- The real registers and walk keep the laws.
 use Rattle.std.specs.Prelude.{◌≡◌, refl, ℕ, ◌+◌, ◌*◌, ◌/◌, ◌%◌}
 use Rattle.std.proofs.Common.{arith}
-use Rattle.sysreg.specs.Regs.{fresh_control, regime_of}
+use Rattle.sysreg.specs.Regs.{fresh_control}
 use Rattle.sysreg.specs.Shape.{asid_base, asid_of}
 use Rattle.sysreg.specs.Shape.{SameShape}
 use Rattle.sysreg.proofs.ShapeLaws.{shape-agrees}
@@ -13,15 +13,8 @@ use Rattle.walk.proofs.WalkBounds.{leaf-bounds}
 use Rattle.walk.specs.PageLaws.{leaf_at}
 use Rattle.walk.proofs.PageLaws.{leaf-of-page}
 use Rattle.sysreg.specs.declared.regs.Regime.{Regime}
-use Rattle.tlb.specs.Translate as Translate
-use Rattle.tlb.specs.declared.access.Kind.{Kind}
-use Rattle.history.specs.World.{Laws, Plain, access_of}
-use Rattle.history.specs.Instance.{Ram, memory_of, real}
-
--- A translation's access is the one that the contracts of `tlb` make of the regime's registers.
-pub access-is : (c : Plain real) (m : Ram) (k : Kind) (va : ℕ) →
-    access_of real c m k va ≡ Translate.access_of (bank_of c.regs (regime_of c.privilege.level)) c.privilege va k (memory_of m)
-access-is c m k va = refl
+use Rattle.history.specs.World.{Laws}
+use Rattle.history.specs.Instance.{memory_of, real}
 
 shape_on : (R S : Control) → SameShape R S → (r : Regime) → stage1_on (bank_of R r) r ≡ stage1_on (bank_of S r) r
 shape_on R S h El1 = rw (h.sctlr El1, h.scr, h.hcr)

@@ -132,11 +132,6 @@ module _ (w : World) (laws : Laws w) where
   run-stands [] c low r = r
   run-stands (x ∷ xs) c low r = run-stands xs (after_event w x c) (event-low w x c low) (event-stands x c low r)
 
-  -- Over every history the cache does to the plain model what the model's own functions do.
-  pub run-live : (past : List (Event w)) (c : Plain w) (t : Tlb) → c.privilege.level ≤ 3 → WellFormed t
-      → live (tlb_run w c past t) ≡ model_run w c past (live t)
-  run-live past c t low s = (run-stands past c low (record { well = s; is = refl })).is
-
   -- and each answer is the model's
   pub answers-run-live : (past : List (Event w)) (c : Plain w) {t : Tlb} {u : Model} → c.privilege.level ≤ 3 → StandsFor t u
       → answers_run w c past t ≡ model_answers_run w c past u

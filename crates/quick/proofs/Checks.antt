@@ -1,6 +1,6 @@
 -- A call by its checks: past them it is its operation, and where one is missed nothing changes.
 use Rattle.std.specs.Prelude.{◌≡◌, ◌+◌, ◌-◌, ◌^◌, ◌<◌, ◌≤◌, true, false, List, ℕ, length, Option, Some}
-use Rattle.std.proofs.Common.{refl, sym, ap, ◌∙◌, arith, subst, le-ltb, lt-ltb}
+use Rattle.std.proofs.Common.{refl, sym, ap, ◌∙◌, arith, subst, le-ltb}
 use Rattle.word.specs.Ram.{word_at, width_of, bytes_in}
 use Rattle.word.specs.declared.ram.Width.{Width}
 use Rattle.word.specs.declared.ram.Width.TheVariants.{Byte, Half, Word, Double}
@@ -63,12 +63,6 @@ known Word = refl
 known Double = refl
 
 module _ (c : Core) (base : ℕ) (ram : List ℕ) where
-  pub high : 3 < c.privilege.level → 1 ≡ first_of (ram_rows c.privilege.level base (length ram))
-  high h = rw (lt-ltb 3 c.privilege.level h) refl
-
-  pub high-sized : (size : ℕ) → 3 < c.privilege.level → 1 ≡ first_of (sized_rows c.privilege.level base (length ram) size)
-  high-sized size h = rw (lt-ltb 3 c.privilege.level h) refl
-
   pub clear : c.privilege.level < 4 → length ram < 2 ^ 64 → base ≤ 2 ^ 64 - 1 - length ram → 0 ≡ first_of (ram_rows c.privilege.level base (length ram))
   clear low long fits =
       let level = le-ltb 3 c.privilege.level (omega (arith, low)) in

@@ -1,21 +1,19 @@
 -- Laws of the shape and of the ASID, for the cache and its history.
-use Rattle.std.specs.Prelude.{if◌then◌else◌, ◌≡◌, refl, Bool, true, false, ◌&&◌, ◌||◌, List, [], ◌∷◌, ℕ, ◌^◌, ◌<◌, eqb, Some, Option, None, Err}
-use Rattle.std.proofs.Common.{sym, arith, eqb-true, eq-eqb}
+use Rattle.std.specs.Prelude.{if◌then◌else◌, ◌≡◌, refl, Bool, true, false, ◌&&◌, ◌||◌, List, [], ◌∷◌, ℕ, eqb, Some, Option, None, Err}
+use Rattle.std.proofs.Common.{sym, eqb-true, eq-eqb}
 use Rattle.std.proofs.lemmas.Bool.{false≢true, not-true}
-use Rattle.word.specs.Bits.{field}
 use Rattle.word.proofs.BitLaws.{both}
 use Rattle.sysreg.specs.declared.{regs.Control.Control, regs.SysRegs.SysRegs}
 use Rattle.sysreg.specs.declared.{regs.Register.Register}
 use Rattle.sysreg.specs.declared.regs.Regime.TheVariants.{El1, El2, El3}
-use Rattle.sysreg.specs.declared.regs.Register.TheVariants.{Sctlr, Tcr, Ttbr0, Ttbr1}
+use Rattle.sysreg.specs.declared.regs.Register.TheVariants.{Sctlr, Tcr}
 use Rattle.sysreg.specs.declared.write.WriteError.TheVariants.{Undefined}
 use Rattle.sysreg.specs.Regs.{in_control, control_at}
 use Rattle.sysreg.specs.Encoding.{key_of, register_at}
 use Rattle.sysreg.proofs.EncodingLaws.{by_level}
 use Rattle.sysreg.specs.Write.{control_with, sys_with, Done, ended, wrote, write_found, write_reg}
 use Rattle.sysreg.proofs.WriteLaws.{control-after}
-use Rattle.sysreg.specs.Tcr.{«as»}
-use Rattle.sysreg.specs.Shape.{SameShape, shape, member, outside_shape, agree_on, same_shape, asid_base, asid_of}
+use Rattle.sysreg.specs.Shape.{SameShape, shape, member, outside_shape, agree_on, same_shape}
 
 module _ (a b : Control) where
   -- what a list of registers holds in both
@@ -52,17 +50,6 @@ module _ (a b : Control) where
       agreed shape
       (h.sctlr El1, (h.sctlr El2, (h.sctlr El3, (h.tcr El1, (h.tcr El2, (h.tcr El3, (h.ttbr0-el2, (h.ttbr0-el3, (h.hcr, (h.scr, tt))))))))))
 
-  -- the ASID is read from three registers
-  pub asid-reads : control_at a (Tcr El1) ≡ control_at b (Tcr El1) →
-      control_at a (Ttbr0 El1) ≡ control_at b (Ttbr0 El1) → control_at a Ttbr1 ≡ control_at b Ttbr1 → asid_of a ≡ asid_of b
-  unfolding asid_of asid_base
-  asid-reads t z o = rw (t, z, o)
-
-  -- of which the shape holds the first
-  pub asid-same : same_shape a b ≡ true →
-      control_at a (Ttbr0 El1) ≡ control_at b (Ttbr0 El1) → control_at a Ttbr1 ≡ control_at b Ttbr1 → asid_of a ≡ asid_of b
-  asid-same e z o = asid-reads ((shape-agrees e).tcr El1) z o
-
 pub shape-self : (c : Control) → same_shape c c ≡ true
 unfolding same_shape
 shape-self c = all shape
@@ -70,15 +57,6 @@ shape-self c = all shape
     all : (l : List Register) → agree_on l c c ≡ true
     all [] = refl
     all (r ∷ rs) = rw (eq-eqb (control_at c r) (control_at c r) refl) (all rs)
-
--- an ASID has at most 16 bits
-pub asid-small : (c : Control) → asid_of c < 2 ^ 16
-unfolding asid_of
-asid-small c = go («as» (control_at c (Tcr El1)))
-  where
-    go : (b : Bool) → field (asid_base c) 48 (if b then 16 else 8) < 2 ^ 16
-    go true = omega arith
-    go false = omega arith
 
 -- each register of a list is one of `Control`
 abbrev all_control : List Register → Bool

@@ -36,7 +36,15 @@ in_control (Ttbr0 r) = true
 in_control Ttbr1 = true
 in_control Scr = true
 in_control Hcr = true
-in_control _ = false
+in_control (Mair r) = false
+in_control (Vbar r) = false
+in_control (Elr r) = false
+in_control (Spsr r) = false
+in_control (Esr r) = false
+in_control (Far r) = false
+in_control Vpidr = false
+in_control Vmpidr = false
+in_control Par = false
 
 -- what a register of `Control` holds, and one of `SysRegs`
 abbrev pub control_at : Control → Register → ℕ

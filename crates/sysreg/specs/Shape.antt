@@ -36,8 +36,8 @@ same_levels a b = eqb (get_or a 1 0) (get_or b 1 0) && eqb (get_or a 2 0) (get_o
 
 -- Two settings of one shape agree in all that translation reads but TTBR0_EL1 and TTBR1_EL1.
 pub record SameShape (a b : Control) : Type 0 where
-  pub sctlr : (el : Regime) → control_at a (Sctlr el) ≡ control_at b (Sctlr el)
-  pub tcr : (el : Regime) → control_at a (Tcr el) ≡ control_at b (Tcr el)
+  pub sctlr : (r : Regime) → control_at a (Sctlr r) ≡ control_at b (Sctlr r)
+  pub tcr : (r : Regime) → control_at a (Tcr r) ≡ control_at b (Tcr r)
   pub ttbr0-el2 : control_at a (Ttbr0 El2) ≡ control_at b (Ttbr0 El2)
   pub ttbr0-el3 : control_at a (Ttbr0 El3) ≡ control_at b (Ttbr0 El3)
   pub hcr : control_at a Hcr ≡ control_at b Hcr

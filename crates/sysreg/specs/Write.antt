@@ -23,11 +23,21 @@ spsr_kept v = in_place v 28 4 + in_place v 21 1 + in_place v 20 1 + in_place v 1
 -- What a register keeps of a value. VBAR_ELx<10:0> are RES0, and so are bits 63:32 of ESR_ELx and VPIDR_EL2. O5: the others
 -- keep the bits that are RES0 or RES1 as they are written
 abbrev pub kept : Register → ℕ → ℕ
-kept (Vbar el) v = align_down v 11
-kept (Spsr el) v = spsr_kept v
-kept (Esr el) v = v % 2 ^ 32
+kept (Sctlr regime) v = v
+kept (Tcr regime) v = v
+kept (Ttbr0 regime) v = v
+kept Ttbr1 v = v
+kept Scr v = v
+kept Hcr v = v
+kept (Mair regime) v = v
+kept (Vbar regime) v = align_down v 11
+kept (Elr regime) v = v
+kept (Spsr regime) v = spsr_kept v
+kept (Esr regime) v = v % 2 ^ 32
+kept (Far regime) v = v
 kept Vpidr v = v % 2 ^ 32
-kept _ v = v
+kept Vmpidr v = v
+kept Par v = v
 
 -- What q holds after a write of v to r: where they are one register, what it keeps of v; else what it held.
 abbrev pub held_after : Register → ℕ → Register → ℕ → ℕ
@@ -41,9 +51,9 @@ bank f l = get_or l 0 0 ∷ f El1 (get_or l 1 0) ∷ f El2 (get_or l 2 0) ∷ f 
 unfoldable pub control_with : Control → Register → ℕ → Control
 control_with c r v =
     record {
-      sctlr = bank (λ el. held_after r v (Sctlr el)) c.sctlr;
-      tcr = bank (λ el. held_after r v (Tcr el)) c.tcr;
-      ttbr0 = bank (λ el. held_after r v (Ttbr0 el)) c.ttbr0;
+      sctlr = bank (λ regime. held_after r v (Sctlr regime)) c.sctlr;
+      tcr = bank (λ regime. held_after r v (Tcr regime)) c.tcr;
+      ttbr0 = bank (λ regime. held_after r v (Ttbr0 regime)) c.ttbr0;
       ttbr1_el1 = held_after r v Ttbr1 c.ttbr1_el1;
       scr_el3 = held_after r v Scr c.scr_el3;
       hcr_el2 = held_after r v Hcr c.hcr_el2;
@@ -52,12 +62,12 @@ control_with c r v =
 unfoldable pub sys_with : SysRegs → Register → ℕ → SysRegs
 sys_with s r v =
     record {
-      mair = bank (λ el. held_after r v (Mair el)) s.mair;
-      vbar = bank (λ el. held_after r v (Vbar el)) s.vbar;
-      elr = bank (λ el. held_after r v (Elr el)) s.elr;
-      spsr = bank (λ el. held_after r v (Spsr el)) s.spsr;
-      esr = bank (λ el. held_after r v (Esr el)) s.esr;
-      far = bank (λ el. held_after r v (Far el)) s.far;
+      mair = bank (λ regime. held_after r v (Mair regime)) s.mair;
+      vbar = bank (λ regime. held_after r v (Vbar regime)) s.vbar;
+      elr = bank (λ regime. held_after r v (Elr regime)) s.elr;
+      spsr = bank (λ regime. held_after r v (Spsr regime)) s.spsr;
+      esr = bank (λ regime. held_after r v (Esr regime)) s.esr;
+      far = bank (λ regime. held_after r v (Far regime)) s.far;
       vpidr_el2 = held_after r v Vpidr s.vpidr_el2;
       vmpidr_el2 = held_after r v Vmpidr s.vmpidr_el2;
       par_el1 = held_after r v Par s.par_el1;

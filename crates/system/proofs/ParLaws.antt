@@ -108,12 +108,6 @@ par-small c mair f va memory =
     flat-small n (Some pa) = success-small 0 pa n 0 (omega arith) (omega arith)
     flat-small n None = abort-small 0 (omega arith)
 
--- an AT reads RAM by its walk alone
-pub by-walk : (c : Control) (mair : ℕ) (f : AtForm) (va : ℕ) (m n : ℕ → Option ℕ) → at_walk c f va m ≡ at_walk c f va n
-    → at_par c mair f va m ≡ at_par c mair f va n
-unfolding at_par par_in fresh_of
-by-walk c mair f va m n e = rw e
-
 -- PAR_EL1 by the manual's own walk and permission check
 module _ (s : Bank) (f : AtForm) where
   bits : (w u : Bool) → right_of (kind_of w) u ≡ kind_bit (access_of w) + first_bit (not u)

@@ -9,7 +9,7 @@ use Rattle.tlb.specs.Tlb.{blanks, no_hints, get_of, put_of, flush_of, drop_page_
 use Rattle.tlb.specs.Access.{judged}
 use Rattle.tlb.specs.Translate.{walked_in, miss_in}
 use Rattle.tlb.specs.Runs.{run, model_run}
-use Rattle.tlb.specs.Worked.{WorkedRun, WorkedAtLevels, WorkedSlots, WorkedCovers, WorkedRights, WorkedFetches, WorkedPending}
+use Rattle.tlb.specs.Worked.{WorkedRun, WorkedAtLevels, WorkedSlots, WorkedCovers, WorkedRights, WorkedFetches, WorkedFlat, WorkedPending}
 
 pub worked-run : WorkedRun
 unfolding run model_run translate hinted tried noted unhinted looked walked judge keep line_for invalidate retag folded
@@ -43,6 +43,11 @@ unfolding run model_run translate fetch hinted tried noted unhinted looked walke
     drop_asid_of retag_of asid_dropped invalidate_of
     miss_in walked_in get_of put_of judged place_of blanks no_hints no_tallies
 worked-fetches = record { cache = refl; model = refl }
+
+pub worked-flat : WorkedFlat
+unfolding run model_run translate hinted tried noted unhinted looked walked judge keep line_for folded
+    miss_in walked_in get_of put_of judged place_of blanks no_hints no_tallies
+worked-flat = record { cache = refl; model = refl }
 
 pub worked-pending : WorkedPending
 unfolding run model_run invalidate broadcast flush_of drop_page_of page_dropped invalidate_of broadcast_of

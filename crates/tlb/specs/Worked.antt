@@ -1,6 +1,6 @@
 -- Worked runs, in numbers: what is seen of a list of operations on a new cache and on the empty plain model, the same rows of both. Where a
 -- definition is wrong, the cache's rows are others, computed.
-use Rattle.std.specs.Prelude.{◌≡◌, ℕ, Bool, true, false, List, [], ◌∷◌, map, filter, Ok, Err}
+use Rattle.std.specs.Prelude.{if◌then◌else◌, ◌≡◌, ℕ, Bool, true, false, List, [], ◌∷◌, map, filter, Ok, Err}
 use Rattle.sysreg.specs.declared.regs.Regime.{Regime}
 use Rattle.sysreg.specs.declared.regs.Regime.TheVariants.{El1, El2, El3}
 use Rattle.tlb.specs.Model.{Slot, empty, holds, Access, empty_model}
@@ -238,6 +238,28 @@ WorkedFetches =
     ∷ (fetch_from 1 false 0x7000, 1 ∷ 0 ∷ 3 ∷ 2 ∷ [])
     ∷ (invalidates (Asid 9), 1 ∷ 0 ∷ 3 ∷ 2 ∷ [])
     ∷ (fetch_from 1 false 0x7000, 1 ∷ 0 ∷ 4 ∷ 2 ∷ [])
+    ∷ [])
+
+-- FLAT. With stage 1 off the answer is the address without its tag, or a fault of status 0x00, and neither is counted. An address that is too
+-- large drops no hint of its slot; an alias by tag has a hint of its own, which takes it. That a hint serves shows where stage 1 is on and
+-- the walk would fault.
+
+abbrev flat_from : ℕ → ℕ → Op
+flat_from va u = translates (record (access_by El1 1 false Read va (Err 6)) { on = false; untagged = u })
+
+-- whether it is an address, the answer, hits and walks of EL1
+abbrev told : Seen → List ℕ
+told s = (if is_address s.answer then 1 else 0) ∷ answered s.answer ∷ hits_and_walks s
+
+abbrev pub WorkedFlat : Type 0
+WorkedFlat =
+    Shows told
+    ((flat_from 0x5123 0x5123, 1 ∷ 0x5123 ∷ 0 ∷ 0 ∷ [])
+    ∷ (flat_from 0x1000_0000_5000 0x1000_0000_5000, 0 ∷ 0 ∷ 0 ∷ 0 ∷ [])
+    ∷ (asked El1 1 false Read 0x5008 (Err 6), 1 ∷ 0x5008 ∷ 0 ∷ 0 ∷ [])
+    ∷ (flat_from 0x5A00_0000_0000_5004 0x5004, 1 ∷ 0x5004 ∷ 0 ∷ 0 ∷ [])
+    ∷ (asked El1 1 false Read 0x5A00_0000_0000_5010 (Err 6), 1 ∷ 0x5010 ∷ 0 ∷ 0 ∷ [])
+    ∷ (asked El1 1 false Read 0x5008 (Err 6), 0 ∷ 6 ∷ 0 ∷ 1 ∷ [])
     ∷ [])
 
 -- WHAT IS PENDING for other cores: an equal second broadcast leaves it, another makes it All, and what this core carries out does not count.

@@ -10,7 +10,7 @@ ghost use Rattle.tlb.specs.Runs.{Op, Fair, run, model_run};
 ghost use Rattle.tlb.specs.Translate.{translation_in, tlb_after, fetch_in, fetched_in};
 ghost use Rattle.tlb.specs.Tlb.{fresh, flush_of, invalidate_of, retag_of, broadcast_of};
 ghost use Rattle.tlb.specs.Worked.{WorkedRun, WorkedAtLevels, WorkedSlots, WorkedCovers};
-ghost use Rattle.tlb.specs.Worked.{WorkedRights, WorkedFetches, WorkedPending};
+ghost use Rattle.tlb.specs.Worked.{WorkedRights, WorkedFetches, WorkedFlat, WorkedPending};
 ghost use Rattle.tlb.specs.declared.Tlb.{Tlb};
 ghost use Rattle.tlb.specs.declared.Inval.{Inval};
 ghost use Rattle.tlb.specs.declared.Inval.TheVariants.{All};
@@ -69,9 +69,9 @@ pub fn counters_of_translations()
 
 // Worked runs, the same rows in numbers of the cache and of the plain model: a 2 MiB block and its invalidations,
 // accesses at several levels, which pages share a slot or a hint's place, what a Page and an Asid cover, which right
-// each access needs, the fetch hint, and what is pending. They rule out hints that outlive an invalidation, and a
-// slot, a place, a span, a mask or a right of other bits, a mark that counts for a fetch, and a broadcast that
-// forgets an earlier one, in code, definition and plain model alike.
+// each access needs, the fetch hint, addresses with stage 1 off, and what is pending. They rule out hints that outlive
+// an invalidation, and a slot, a place, a span, a mask or a right of other bits, a mark that counts for a fetch, a flat
+// fault that drops a hint, and a broadcast that forgets an earlier one, in code, definition and plain model alike.
 pub fn worked_runs()
     ensures block { WorkedRun }
     ensures levels { WorkedAtLevels }
@@ -79,5 +79,6 @@ pub fn worked_runs()
     ensures covers { WorkedCovers }
     ensures rights { WorkedRights }
     ensures fetches { WorkedFetches }
+    ensures flat { WorkedFlat }
     ensures pending { WorkedPending }
 {}

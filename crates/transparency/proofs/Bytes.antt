@@ -2,30 +2,34 @@
 -- DC ZVA leaves 64 zero bytes at the translation of the aligned address and every other byte as it was. The laws are
 -- the core's, of cores that are well-formed; `read_of`, `write_of`, `ram_after_write`, `sys_of` and `sys_ram` are what
 -- `step_of` and `ram_after` make of a call that misses no check.
-use Rattle.std.specs.Prelude.{◌≡◌, refl, false, List, [], ◌∷◌, ◌++◌, ℕ, ◌+◌, ◌^◌, ◌≤◌, ◌<◌, Ok}
+use Rattle.std.specs.Prelude.{◌≡◌, refl, false, slice_index, Err, List, [], ◌∷◌, ◌++◌, ℕ, ◌+◌, ◌^◌, ◌≤◌, ◌<◌, Ok}
 use Rattle.std.proofs.Common.{sym, ap, ◌∙◌, arith}
 use borrow.Author.Tests.{le-ltb}
 use Rattle.std.proofs.Math.ListN.{length}
 use Rattle.walk.proofs.TagLaws.{untagged-plus}
+use Rattle.word.specs.Ram.{word_at}
 use Rattle.tlb.specs.Access.{flat_answer}
+use Rattle.tlb.specs.Answers.{Answer}
 use Rattle.tlb.proofs.FlatLaws.{flat-given, flat-fits}
 use Rattle.tlb.specs.Asks.{translates}
 use Rattle.tlb.specs.declared.access.Kind.{Kind}
 use Rattle.tlb.specs.declared.access.Kind.TheVariants.{Read, Write}
 use Rattle.cpu.specs.Bare.{Bare, fresh_bare, bare_of}
-use Rattle.cpu.specs.Core.{fresh_core}
-use Rattle.cpu.specs.Translations.{translate_in}
-use Rattle.cpu.specs.Memory.{stepped_now, translate_of}
+use Rattle.cpu.specs.Answers.{Placed}
+use Rattle.cpu.specs.Core.{fresh_core, after_access}
+use Rattle.cpu.specs.Place.{placed_one, address_in}
+use Rattle.cpu.specs.Translations.{translate_in, located_of}
+use Rattle.cpu.specs.Memory.{stepped_now, located_now, translate_of, ram_after_write}
 use Rattle.cpu.specs.OpLaws.{on_now}
 use Rattle.cpu.specs.OwnAddress.{byte_va, Ready}
 use Rattle.cpu.proofs.ByteMeaning.{load_byte, store_byte, store-others, load-flat, store-flat}
+use Rattle.cpu.proofs.OpLaws.{write-leaves}
 use Rattle.cpu.proofs.ZeroMeaning.{zva-zeroes}
-use Rattle.cpu.proofs.ByteMeaning.{load_byte, store_byte, store-others}
-use Rattle.cpu.proofs.ZeroMeaning.{zva-zeroes}
+use Rattle.cpu.specs.declared.{Core.Core, place.Place.Place}
+use Rattle.cpu.specs.declared.place.Place.TheVariants.{Whole}
 use Rattle.cpu.specs.Check.{missed_of}
 use Rattle.cpu.specs.Step.{run_of, step_of}
 use Rattle.cpu.specs.declared.call.Call.TheVariants.{Translate}
-use Rattle.history.specs.World.{uncached}
 use Rattle.history.specs.World as World
 use Rattle.history.proofs.Corollaries.{off-settled}
 use Rattle.history.specs.Calls.{Fed, lent_of, Shown, showing}
@@ -75,7 +79,7 @@ unmoved b m kind va = go (ruling_in b m (Translate kind va))
 
 -- what a law of bytes asks of the core, the window and the access
 pub ready-after : (list : List (Fed real machine)) (seen : Shown real machine fresh_core list) (m : Ram) (va n : ℕ) (kind : Kind)
-    → va < 2 ^ 64 → n ≤ 8 → Statement.Within44 list va n → m.base + length m.bytes ≤ 2 ^ 64 → Ready (core_now list) m.base m.bytes va n kind
+    → va < 2 ^ 64 → n ≤ 8 → Statement.Within44 list m va n kind → m.base + length m.bytes ≤ 2 ^ 64 → Ready (core_now list) m.base m.bytes va n kind
 unfolding step_of run_of
 ready-after list seen m va n kind small few near room =
     record {
@@ -115,7 +119,7 @@ ready-after list seen m va n kind small few near room =
     onward off pa i e k =
         let own = flat-given (untag va) pa (sym (flat-after list seen m (same ∙ off) kind va) ∙ e) in
         let is : untag va ≡ pa = own.0 in
-        let fits : untag va + n ≤ 2 ^ 44 = near (same ∙ off) in
+        let fits : pa + n ≤ 2 ^ 44 = near (same ∙ off) pa e in
         ap flat_answer (untagged-plus _ _ va i small (omega arith) ∙ ap (λ (u : ℕ). u + i) is) ∙ flat-fits (pa + i) (omega arith)
 
     still : World.on_now real (plain_in (bare_now more)) ≡ World.on_now real (plain_in (bare_now list))
@@ -148,6 +152,33 @@ flat-load-after list seen m va n pa off room bytes e inside =
 pub flat-store-after : Statement.flat_store_after
 flat-store-after list seen m va n v pa off room e inside =
     store-flat (core_now list) m.base m.bytes va n v pa (sym (on-same list) ∙ off) room e inside
+
+-- and changes no other byte
+module _ (c : Core) (base : ℕ) (ram : List ℕ) (va n v k : ℕ) (off : on_now c ≡ false) where
+  abbrev first_answer : Answer
+  first_answer = (translate_of c (word_at base ram 8) va Write).answer
+
+  abbrev Placing : Placed → Type 0
+  Placing x = (located_now c (word_at base ram 8) va n Write).placed ≡ x
+
+  placing : (a : Answer) → first_answer ≡ a → Placing (placed_one va a)
+  unfolding translate_of stepped_now located_now located_of after_access
+  placing (Ok pa) e = rw (off, e)
+  placing (Err f) e = rw (off, e)
+
+  flat-leaves : ((i pa : ℕ) → i < n → first_answer ≡ Ok pa → pa + i ≡ base + k → ⊥)
+      → slice_index (ram_after_write c base ram va n v) k ≡ slice_index ram k
+  flat-leaves none = write-leaves c base ram va n v k (λ place p i l q. go first_answer refl place (sym (placing first_answer refl) ∙ p) i l q)
+    where
+      go : (a : Answer) → first_answer ≡ a → (place : Place) → placed_one va a ≡ Ok place → (i : ℕ) → i < n → base + k ≡ address_in place i → ⊥
+      go (Ok pa) e place p i l q =
+          let same : Whole pa ≡ place = cc in
+          none i pa l e (ap (λ (x : Place). address_in x i) same ∙ sym q)
+      go (Err f) e place p i l q = let z : ◌≡◌ {A = ℕ} 0 1 = cc in absurd (omega arith)
+
+pub flat-others-after : Statement.flat_others_after
+flat-others-after list seen m va n v k off none =
+    flat-leaves (core_now list) m.base m.bytes va n v k (sym (on-same list) ∙ off) none
 
 -- DC ZVA that is done
 pub zva-after : Statement.zva_after

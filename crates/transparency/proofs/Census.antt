@@ -11,7 +11,8 @@ use Rattle.sysreg.specs.Regs.{regime_of}
 use Rattle.walk.specs.declared.{regime.Bank.Bank, level.Leaf.Leaf, fresh.Fresh.Fresh}
 use Rattle.sysreg.specs.declared.regs.Regime.{Regime}
 use Rattle.walk.specs.declared.fresh.Fresh.TheVariants.{Flat, Ended}
-use Rattle.census.specs.Tally.{how_many, many-same}
+use Rattle.census.specs.Tally.{how_many}
+use Rattle.census.proofs.TallyLaws.{many-same}
 use Rattle.census.specs.Count.{page_at, census_at}
 use Rattle.census.specs.Laws.{faults_with, has_rights}
 use Rattle.census.proofs.Laws.{sound-at, status-count}

@@ -49,10 +49,20 @@ flat_store_after =
     → ((write_of (core_now list) m.base m.bytes va n).answer ≡ Ok tt)
     × ((i : ℕ) → i < n → byte_in m.base (ram_after_write (core_now list) m.base m.bytes va n v) (pa + i) ≡ v / 256 ^ i % 256)
 
--- with stage 1 on, or no byte of the access past 2^44: else its later bytes' own translations would fault
-abbrev pub Within44 : List (Fed real machine) → ℕ → ℕ → Type 0
-Within44 list va n =
-    World.on_now real (plain_in (bare_now list)) ≡ false → World.untag_now real (plain_in (bare_now list)) va + n ≤ 2 ^ 44
+-- and changes no byte beside those; none at all where its first byte's translation faults
+abbrev pub flat_others_after : Type 0
+flat_others_after =
+    (list : List (Fed real machine)) (seen : Shown real machine fresh_core list) (m : Ram) (va n v k : ℕ)
+    → World.on_now real (plain_in (bare_now list)) ≡ false
+    → ((i pa : ℕ) → i < n → (translate_of (core_now list) (memory_of m) va Write).answer ≡ Ok pa → pa + i ≡ m.base + k → ⊥)
+    → get_or (ram_after_write (core_now list) m.base m.bytes va n v) k 0 ≡ get_or m.bytes k 0
+
+-- with stage 1 on, or a fault of the first byte's translation, or no byte of the access past 2^44: else its later bytes' own translations would
+-- fault
+abbrev pub Within44 : List (Fed real machine) → Ram → ℕ → ℕ → Kind → Type 0
+Within44 list m va n kind =
+    World.on_now real (plain_in (bare_now list)) ≡ false → (pa : ℕ)
+    → (translate_of (core_now list) (memory_of m) va kind).answer ≡ Ok pa → pa + n ≤ 2 ^ 44
 
 -- EACH BYTE
 
@@ -60,7 +70,7 @@ Within44 list va n =
 abbrev pub load_byte_after : Type 0
 load_byte_after =
     (list : List (Fed real machine)) (seen : Shown real machine fresh_core list) (m : Ram) (va n v i : ℕ)
-    → va < 2 ^ 64 → n ≤ 8 → Within44 list va n → m.base + length m.bytes ≤ 2 ^ 64 → ((k : ℕ) → get_or m.bytes k 0 < 256)
+    → va < 2 ^ 64 → n ≤ 8 → Within44 list m va n Read → m.base + length m.bytes ≤ 2 ^ 64 → ((k : ℕ) → get_or m.bytes k 0 < 256)
     → (read_of (core_now list) m.base m.bytes va n).answer ≡ Ok v → i < n
     → (o : OwnByte (core_now list) m.base m.bytes va Read i) × (v / 256 ^ i % 256 ≡ byte_in m.base m.bytes (wrap o.pa))
 
@@ -69,7 +79,7 @@ load_byte_after =
 abbrev pub store_byte_after : Type 0
 store_byte_after =
     (list : List (Fed real machine)) (seen : Shown real machine fresh_core list) (m : Ram) (va n v i : ℕ)
-    → va < 2 ^ 64 → n ≤ 8 → Within44 list va n → m.base + length m.bytes ≤ 2 ^ 64
+    → va < 2 ^ 64 → n ≤ 8 → Within44 list m va n Write → m.base + length m.bytes ≤ 2 ^ 64
     → (write_of (core_now list) m.base m.bytes va n).answer ≡ Ok tt → i < n
     → (o : OwnByte (core_now list) m.base m.bytes va Write i)
     × (((j pa : ℕ) → i < j → j < n → own_answer (core_now list) (memory_of m) va Write j ≡ Ok pa
@@ -80,7 +90,7 @@ store_byte_after =
 abbrev pub store_others_after : Type 0
 store_others_after =
     (list : List (Fed real machine)) (seen : Shown real machine fresh_core list) (m : Ram) (va n v k : ℕ)
-    → va < 2 ^ 64 → n ≤ 8 → Within44 list va n → m.base + length m.bytes ≤ 2 ^ 64 → k < length m.bytes
+    → va < 2 ^ 64 → n ≤ 8 → Within44 list m va n Write → m.base + length m.bytes ≤ 2 ^ 64 → k < length m.bytes
     → ((i pa : ℕ) → i < n → own_answer (core_now list) (memory_of m) va Write i ≡ Ok pa → wrap pa ≡ m.base + k → ⊥)
     → get_or (ram_after_write (core_now list) m.base m.bytes va n v) k 0 ≡ get_or m.bytes k 0
 

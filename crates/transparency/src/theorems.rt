@@ -33,7 +33,7 @@ ghost use Rattle.transparency.specs.LevelCounts.{level_hits, level_walks, sums_l
 ghost use Rattle.transparency.specs.LevelCounts.{own_hits, own_walks, sums_call, quiet_stays, refused_stays};
 ghost use Rattle.transparency.specs.LevelCounts.{fetch_mark_free};
 ghost use Rattle.transparency.specs.Bytes.{flat_after, load_byte_after, store_byte_after, store_others_after};
-ghost use Rattle.transparency.specs.Bytes.{flat_load_after, flat_store_after, zva_after};
+ghost use Rattle.transparency.specs.Bytes.{flat_load_after, flat_store_after, flat_others_after, zva_after};
 
 /// The claim for every history, as `specs/Claim.antt` states it: at each step of every list of calls, whatever RAM is,
 /// each translation of a settled page is answered as by the core without a cache, and where all pages of a step are
@@ -263,5 +263,6 @@ pub fn every_byte()
     ensures others { store_others_after }
     ensures flat_loaded { flat_load_after }
     ensures flat_stored { flat_store_after }
+    ensures flat_others { flat_others_after }
     ensures zeroing { zva_after }
 {}

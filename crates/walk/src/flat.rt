@@ -3,11 +3,9 @@ ghost use Rattle.std.specs.Prelude.{◌≡◌};
 ghost use Rattle.walk.specs.Flat.{flat_by};
 ghost use Rattle.walk.specs.Tag.{untagged};
 
+use crate::range::PA_BITS;
 use crate::regime::Bank;
 use sysreg::regs::Regime;
-
-/// The implemented size of a physical address, in bits (`ID_AA64MMFR0_EL1.PARange`).
-const PA_BITS: u32 = 44;
 
 /// The physical address of an untagged address with stage 1 off. `None` is an address size fault of level 0
 /// (DDI 0487, AArch64.TranslateAddressS1Off).

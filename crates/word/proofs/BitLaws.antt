@@ -23,10 +23,6 @@ both false b e = absurd (false≢true e)
 pub align-le : (x n : ℕ) → align_down x n ≤ x
 align-le x n = omega (arith, split x n)
 
--- and what it drops is the remainder
-pub align-low : (x n : ℕ) → x - align_down x n ≡ x % 2 ^ n
-align-low x n = omega (arith, split x n)
-
 -- the bits lo to hi of a number cut at hi are those of the number
 pub cut_field : (x : ℕ) {lo hi : ℕ} → lo ≤ hi → x % 2 ^ hi / 2 ^ lo ≡ field x lo (hi - lo)
 cut_field x {lo} {hi} h =

@@ -1,4 +1,4 @@
-use Rattle.tlb.proofs.Worked.{worked-run, worked-at-levels, worked-slots, worked-covers, worked-rights, worked-fetches, worked-pending}
+use Rattle.tlb.proofs.Worked.{worked-run, worked-at-levels, worked-slots, worked-covers, worked-rights, worked-fetches, worked-flat, worked-pending}
 use Rattle.tlb.proofs.theorems.worked_runs.Goals as goal
 
 pub returns-clause-block : goal.returns-clause-block
@@ -18,6 +18,9 @@ returns-clause-rights c = worked-rights
 
 pub returns-clause-fetches : goal.returns-clause-fetches
 returns-clause-fetches c = worked-fetches
+
+pub returns-clause-flat : goal.returns-clause-flat
+returns-clause-flat c = worked-flat
 
 pub returns-clause-pending : goal.returns-clause-pending
 returns-clause-pending c = worked-pending
