@@ -61,7 +61,7 @@ cat "$work"/sample.*.want >"$work/shown"
 cat >"$work/unshown" <<'UNSHOWN'
 walk_report/src/fields.rt: -w-
 walk_report/src/fields.rt: -wx
-walk_report/src/fields.rt: another fault
+manual_words/src/status.rt: another fault
 census_report/src/letter.rt: another fault
 census_report/src/letter.rt: no right
 chord/src/note.rt: C#
@@ -78,7 +78,7 @@ a72/src/stop.rt: no command
 a72/src/stop.rt: the proved core lost a tone of the chord
 a72/src/stop.rt: out of memory
 UNSHOWN
-(cd crates && awk -v shown="$work/shown" -f ../tests/texts.awk walk_report/src/*.rt census_report/src/*.rt counters_report/src/*.rt chord/src/*.rt trace_file/src/*.rt \
+(cd crates && awk -v shown="$work/shown" -f ../tests/texts.awk manual_words/src/*.rt walk_report/src/*.rt census_report/src/*.rt counters_report/src/*.rt chord/src/*.rt trace_file/src/*.rt \
     a72/src/*.rt trace_text/src/reason.rt) | grep -vxF -f "$work/unshown" >"$work/told"
 [ ! -s "$work/told" ] && pass || { fail 'texts of the tool that no sample shows' && sed 's/^/    /' "$work/told"; }
 
@@ -226,6 +226,14 @@ else
     echo 'tool.sh: python3 is missing: pictures are not tested'
 fi
 
+# Names stand for numbers.
+grep -v '^#' tests/names.txt | sed 's/ = .*//' >"$work/trace"
+grep -v '^#' tests/names.txt | sed 's/.* = //' >"$work/good"
+"$tool" run "$work/trace" >"$work/ours" 2>"$work/err"
+"$tool" run "$work/good" | cmp -s - "$work/ours" && [ "$(wc -l <"$work/ours")" = "$(wc -l <"$work/good")" ] && [ ! -s "$work/err" ] && pass || fail 'lines by names'
+"$tool" run "$work/good" --words 2>&1 | grep -v '^    ' >"$work/ours"
+"$tool" run "$work/good" --short | cmp -s - "$work/ours" && pass || fail 'a run in words is a short run, and words'
+
 # refused STATUS TEXT COMMAND..: the message holds the text, nothing is on standard output, and the status is that.
 refused() {
     status=$1
@@ -266,6 +274,112 @@ line 'load none 0' 6 'No such file'
 line 'load tests 0' 6 "the file's bytes do not all lie in the window"
 line "load $work/dump 0" 6 "the file's bytes do not all lie in the window"
 line "$(printf 'x 1 \001')" 5 'a byte that no line holds'
+# Names that are none, each with the nearest.
+line 'reg TCR_EL 0' 5 'neither a hexadecimal number nor a register (the nearest is TCR_EL1)'
+line 'reg sctrl_el2 0' 5 'neither a hexadecimal number nor a register (the nearest is SCTLR_EL2)'
+line 'reg ttbr1_el2 0' 5 'neither a hexadecimal number nor a register (the nearest is TTBR0_EL2)'
+line 'reg 0xc102 0' 5 'not a hexadecimal number'
+line 'reg TCR_EL1' 12 'an argument is missing'
+line 'reg tcr_el1 0 1' 15 'a word after the last argument'
+line 'reg 100000000 0' 5 'a number of more than 32 bits'
+line 'reg tcr_el1 x0' 13 'not a hexadecimal number'
+line 'l-bank tcr' 8 'neither a hexadecimal number nor a register'
+line 'tlbi' 5 'an argument is missing'
+line 'tlbi vae1is' 12 'an argument is missing'
+line 'tlbi vae1si x1' 6 'no such operation (the nearest is vae1)'
+line 'tlbi vmalle x1' 6 'no such operation (the nearest is vmalle1)'
+line 'tlbi vmalle1 x1' 14 'a word after the last argument'
+line 'tlbi vae1 x31' 11 'no general register'
+line 'tlbi vae1 x01' 11 'no general register'
+line 'tlbi vae1 w1' 11 'not a hexadecimal number'
+line 'tlbi vae1, , x1' 12 'not a hexadecimal number'
+line 'tlbi vae1 100000000' 11 'a number of more than 32 bits'
+line 'at s1e4r x0' 4 'no such operation (the nearest is s1e1r)'
+line 'at s1e1r' 9 'an argument is missing'
+line 'at x0' 4 'no such operation'
+line 'dc civac' 9 'an argument is missing'
+line 'dc iallu' 4 'no such operation'
+line 'ic zva x0' 4 'no such operation'
+line 'ic iallu x0' 10 'a word after the last argument'
+line 'dc' 3 'an argument is missing'
+line 'tlb vae1 x1' 1 'no line of a trace has this name (the nearest is tlbi)'
+line 'TR 1 0' 1 'no line of a trace has this name (the nearest is tr)'
+line 'msr TCR_EL1 x0' 1 'no line of a trace has this name'
+line 'p-gne 1' 1 'no line of a trace has this name (the nearest is p-gen)'
+line 'w-entri 0 0 0 0 0' 1 'no line of a trace has this name (the nearest is w-entry)'
+line 'l-wlk 1 0' 1 'no line of a trace has this name (the nearest is l-walk)'
+line 'tr exec 0' 4 'no kind of access'
+line 'tr 5 0' 4 'no kind of access'
+line 'tr 0 0' 4 'no kind of access'
+line 'abort' 6 'an argument is missing'
+line 'abort undefind' 7 'no such exception'
+line 'abort svc' 10 'an argument is missing'
+line 'abort brk -1' 11 'not a hexadecimal number'
+line 'abort pca 1' 11 'a word after the last argument'
+line 'abort insn 0' 13 'an argument is missing'
+line 'abort data 0 fetch 7' 14 'no flag'
+line 'l-on el4' 6 'no regime'
+line 'l-on 0' 6 'no regime'
+line 'l-walk 1' 9 'an argument is missing'
+line 'l-bits' 7 'an argument is missing'
+line 'l-perm 100' 8 'a number of more than 8 bits'
+line 'l-vec 0 1 2' 11 'no flag'
+line 'l-syn 0 1 0 none' 13 'no such exception'
+line 'p-gen 100000000' 7 'a number of more than 32 bits'
+line 'p-bc 1' 6 'a word after the last argument'
+line 'p-spsel 2' 9 'no flag'
+line 'w-hint 10000 0 0' 8 'a number of more than 16 bits'
+line 'w-entry 0 0 0 0' 16 'an argument is missing'
+line 'w-fetch 0 0' 12 'an argument is missing'
+line 'window 0' 9 'an argument is missing'
+line 'window zero 0' 8 'not a hexadecimal number'
+line 'zero 1' 6 'a word after the last argument'
+line 'fresh now' 7 'a word after the last argument'
+line 'poke 0 g' 8 'not a hexadecimal number'
+line '+ 1' 1 'no line of a trace has this name'
+line 'ld + 8' 4 'not a hexadecimal number'
+line 'ld +-1 8' 4 'not a hexadecimal number'
+line 'ld 1_000 8' 4 'not a hexadecimal number'
+line 'ld 1.5 8' 4 'not a hexadecimal number'
+line 'ld 0,8' 4 'not a hexadecimal number'
+line 'ld 0 8;' 6 'not a hexadecimal number'
+line 'x x31 0' 3 'no general register'
+line 'x x 0' 3 'no general register'
+line "$(printf 'tr 1 \302\2400')" 6 'a byte that no line holds'
+printf 'tr 1 0\0 1\n' >"$work/bad"
+refused 1 ':1:7: a byte that no line holds' run "$work/bad"
+printf '\377\376t\0r\0' >"$work/bad"
+refused 1 ':1:1: a byte that no line holds' run "$work/bad"
+for command in 'run bad' 'audit bad' 'walk bad 0' 'counters bad' 'census bad 0 1'; do
+    printf 'tr 1 0\nreg TCR 0\n' >"$work/bad"
+    # shellcheck disable=SC2086
+    refused 1 "$work/bad:2:5: neither a hexadecimal number nor a register" $(echo "$command" | sed "s|bad|$work/bad|")
+done
+ln -s "$work/loop" "$work/loop"
+refused 1 'Too many levels of symbolic links' run "$work/loop"
+refused 1 'Not a directory' run "$work/bad/"
+refused 1 'No such file' run ''
+
+# An option of another command, and options that exclude each other.
+refused 2 '--svg is an option of census' audit "$layout" --svg
+refused 2 '--svg is an option of census' run --svg "$layout"
+refused 2 '--short is an option of run' walk "$layout" 0 --short
+refused 2 '--short is an option of run' audit --short "$layout"
+refused 2 '--words is an option of run' counters "$layout" --words
+refused 2 '--words is an option of run' census "$layout" 0 10 --words
+refused 2 '--full is an option of run' audit "$layout" --full
+refused 2 '--all is an option of audit' walk --all "$layout" 0
+refused 2 '--all is an option of audit' run "$layout" --all
+refused 2 '--all is an option of audit' chord --all
+refused 2 '--image is an option of the commands that take a TRACE' chord --image "$layout@0"
+refused 2 'run wants --short or --words, and not both' run "$layout" --words --short
+refused 2 '--image stands twice' run "$layout" --image "$layout@0" --image "$layout@0"
+refused 2 'no such option: --image=x@0' run "$layout" --image=x@0
+refused 2 'no such option: --' run -- "$layout"
+refused 2 'no such command: aduit (the nearest is audit)' aduit "$layout" --svg
+for address in '' 0x -1 0x0x1 10000000000000000 ' 1' 1_0; do refused 1 'ADDRESS: not a hexadecimal number' walk "$layout" "$address"; done
+for level in '' -1 0x4 el1 ffffffffffffffff; do refused 1 'LEVEL: 0, 1, 2 or 3' walk "$layout" 0 read "$level"; done
+for kind in '' Read exec 1; do refused 1 'read, write or fetch' walk "$layout" 0 "$kind"; done
 printf 'tr 1 0\nworse\n' >"$work/bad"
 refused 1 ':2:1:' run "$work/bad"
 printf '\357\273\277tr 1 0\n' >"$work/bad"

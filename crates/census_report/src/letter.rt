@@ -1,6 +1,6 @@
 // How pages end, and the letter of it in the map.
+use manual_words::status::{Cause, Status};
 use std::fmt;
-use walk_report::fields::{Cause, Status};
 
 /// How a page ends.
 #[derive(Clone, Copy)]

@@ -157,9 +157,14 @@ impl Auditor {
         match line.line {
             Line::Setup(setup) => {
                 machine.arrange(setup)?;
-                if matches!(setup, Setup::Fresh | Setup::Part(_)) {
-                    self.keeping.clear(machine.core.tlb.epoch);
-                    self.drops.clear();
+                let epoch = machine.core.tlb.epoch;
+                match setup {
+                    Setup::Fresh => {
+                        self.keeping.clear(epoch);
+                        self.drops.clear();
+                    }
+                    Setup::Part(part) => self.keeping.forget(part, epoch),
+                    _ => {}
                 }
             }
             Line::Operation(Operation::Call(call)) => match zeroing(machine, call) {

@@ -1,5 +1,6 @@
 //! An answer that a walk made now would not give, and where it comes from.
 use crate::kept::{Cause, Kept};
+use crate::words::Aside;
 use audit::answers::Answered;
 use std::fmt;
 use walk_report::answer::Told;
@@ -8,7 +9,13 @@ use walk_report::fields::Rights;
 
 impl fmt::Display for Cause {
     fn fmt<W: fmt::Write>(&self, f: &mut fmt::Formatter<W>) -> fmt::Result {
-        write!(f, "line {}: {}", self.number, self.line)
+        write!(
+            f,
+            "line {}: {}{}",
+            self.number,
+            self.line,
+            Aside(&self.line)
+        )
     }
 }
 
@@ -83,10 +90,7 @@ impl fmt::Display for Finding {
                 show_kept(f, kept)?;
                 self.show_drops(f)
             }
-            None => writeln!(
-                f,
-                "  filled     by no access: a line wrote the core's words"
-            ),
+            None => writeln!(f, "  filled     by no access: a line w-.. or p-.. wrote it"),
         }
     }
 }

@@ -5,7 +5,7 @@ use cpu::Core;
 use std::alloc::{AllocError, Global};
 use sysreg::regs::Regime;
 use tlb::hint;
-use trace_text::line::Line;
+use trace_text::line::{Line, Part};
 use walk::level::{Leaf, Walked};
 use walk::regime::Bank;
 use walk_report::answer::Source;
@@ -99,6 +99,17 @@ impl Keeping {
         self.entries.as_mut_slice().fill(None);
         self.hints.as_mut_slice().fill(None);
         self.fetch = None;
+        self.epoch = epoch;
+    }
+
+    /// After a line that wrote a part of the core: no access filled the hint or the entry that it wrote.
+    pub fn forget(&mut self, part: Part, epoch: u64) {
+        match part {
+            Part::Word { .. } => {}
+            Part::Hint { slot, .. } => put(&mut self.hints, usize::from(slot) % HINTS, None),
+            Part::Entry { slot, .. } => put(&mut self.entries, usize::from(slot) % ENTRIES, None),
+            Part::FetchHint { .. } => self.fetch = None,
+        }
         self.epoch = epoch;
     }
 

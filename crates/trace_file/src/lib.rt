@@ -1,6 +1,7 @@
 #![tactic(auto)]
 //! A trace from a file: its lines, what is said of those that are refused, and the line of output of an operation.
 pub mod auditor;
+pub mod cache;
 pub mod carry;
 mod finding;
 mod kept;
@@ -8,3 +9,4 @@ pub mod load;
 pub mod report;
 pub mod run;
 pub mod show;
+pub mod words;

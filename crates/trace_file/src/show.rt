@@ -1,4 +1,5 @@
 //! A line of output for an operation: its number in the trace, the operation, the answer, and the core after it.
+use crate::words;
 use core_parts::read;
 use counters_report::line::Levels;
 use cpu::Core;
@@ -46,6 +47,14 @@ fn digests<W: Write>(out: &mut W, core: &Core, ram: u64) -> io::Result<()> {
     writeln!(out, " H={}:{:016x} M={ram:016x}", hints.count, hints.digest)
 }
 
+// The core after an operation.
+fn whole<W: Write>(out: &mut W, machine: &mut Machine) -> io::Result<()> {
+    let ram = machine.window_digest();
+    counts(out, &machine.core)?;
+    registers(out, &machine.core, machine.level())?;
+    digests(out, &machine.core, ram)
+}
+
 /// What a line of output says.
 #[derive(Clone, Copy, PartialEq, Eq)]
 pub enum Form {
@@ -53,8 +62,11 @@ pub enum Form {
     Whole,
     /// the operation and its answer: no digest of the window is taken
     Short,
+    /// the same, and below it what that says in the manual's words
+    Words,
 }
 
+/// The line of output of an operation that was carried out.
 pub fn operation<W: Write>(
     out: &mut W,
     form: Form,
@@ -63,12 +75,13 @@ pub fn operation<W: Write>(
     answer: Answer,
     machine: &mut Machine,
 ) -> io::Result<()> {
-    if form == Form::Short {
-        return writeln!(out, "{number} {operation} => {answer}");
-    }
-    let ram = machine.window_digest();
     write!(out, "{number} {operation} => {answer}")?;
-    counts(out, &machine.core)?;
-    registers(out, &machine.core, machine.level())?;
-    digests(out, &machine.core, ram)
+    match form {
+        Form::Whole => whole(out, machine),
+        Form::Short => writeln!(out),
+        Form::Words => {
+            writeln!(out)?;
+            words::show(out, operation, answer, &machine.core)
+        }
+    }
 }

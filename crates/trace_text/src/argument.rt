@@ -1,6 +1,7 @@
 //! The arguments of a line, each by its type.
-use crate::lex;
 use crate::reason::Reason;
+use crate::{lex, names};
+use manual_words::register;
 use sysreg::regs::Regime;
 use tlb::access::Kind;
 
@@ -44,14 +45,77 @@ impl Argument for bool {
     }
 }
 
+/// The access of an abort: 0 or `read`, 1 or `write`.
+#[derive(Clone, Copy)]
+pub struct Write(pub bool);
+
+impl Argument for Write {
+    fn read(word: &[u8]) -> Result<Write, Reason> {
+        match names::kind(word) {
+            Some(Kind::Read) => Ok(Write(false)),
+            Some(Kind::Write) => Ok(Write(true)),
+            _ if names::is_name(word) => Err(Reason::NotFlag),
+            _ => Ok(Write(bool::read(word)?)),
+        }
+    }
+}
+
 impl Argument for Kind {
     fn read(word: &[u8]) -> Result<Kind, Reason> {
-        Kind::try_from(u64::read(word)?).map_err(|_| Reason::NotKind)
+        match names::kind(word) {
+            Some(kind) => Ok(kind),
+            None if names::is_name(word) => Err(Reason::NotKind),
+            None => Kind::try_from(u64::read(word)?).map_err(|_| Reason::NotKind),
+        }
+    }
+}
+
+/// The encoding of a register, as a number or by the register's name.
+#[derive(Clone, Copy)]
+pub struct Key(pub u32);
+
+impl Argument for Key {
+    fn read(word: &[u8]) -> Result<Key, Reason> {
+        if let Some(register) = register::named(word) {
+            return Ok(Key(register::key(register)));
+        }
+        match u32::read(word) {
+            Ok(key) => Ok(Key(key)),
+            Err(Reason::NotNumber) if names::is_name(word) => {
+                Err(Reason::NoSuchRegister(register::nearest(word)))
+            }
+            Err(reason) => Err(reason),
+        }
+    }
+}
+
+/// The number of a general register: x0 to x30, xzr, or hexadecimal.
+#[derive(Clone, Copy)]
+pub struct General(pub u64);
+
+impl Argument for General {
+    fn read(word: &[u8]) -> Result<General, Reason> {
+        if word.eq_ignore_ascii_case(b"xzr") {
+            return Ok(General(31));
+        }
+        match word {
+            [b'x' | b'X', unit @ b'0'..=b'9'] => Ok(General(u64::from(*unit - b'0'))),
+            [b'x' | b'X', ten @ b'1'..=b'2', unit @ b'0'..=b'9'] => {
+                Ok(General(u64::from(*ten - b'0') * 10 + u64::from(*unit - b'0')))
+            }
+            [b'x' | b'X', b'3', b'0'] => Ok(General(30)),
+            [b'x' | b'X', ..] => Err(Reason::NotGeneral),
+            _ => Ok(General(u64::from(u32::read(word)?))),
+        }
     }
 }
 
 impl Argument for Regime {
     fn read(word: &[u8]) -> Result<Regime, Reason> {
-        Regime::try_from(u64::read(word)?).map_err(|_| Reason::NotRegime)
+        match names::regime(word) {
+            Some(regime) => Ok(regime),
+            None if names::is_name(word) => Err(Reason::NotRegime),
+            None => Regime::try_from(u64::read(word)?).map_err(|_| Reason::NotRegime),
+        }
     }
 }

@@ -5,6 +5,7 @@ pub mod answer;
 pub mod argument;
 pub mod lex;
 pub mod line;
+pub mod names;
 pub mod parse;
 pub mod reason;
 pub mod words;

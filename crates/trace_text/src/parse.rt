@@ -1,11 +1,13 @@
 //! What a line of a trace means: a line, nothing, or the place and the reason of a refusal.
-use crate::argument::Argument;
-use crate::lex;
+use crate::argument::{Argument, General, Key, Write};
 use crate::lex::{Word, Words};
 use crate::line::{LONGEST_WINDOW, Leaf, Line, Load, Operation, Part, Poke, Setup};
+use crate::names::ExceptionName;
 use crate::reason::{Reason, Refusal};
+use crate::{lex, names};
 use cpu::call::Call;
 use exception::kind::{DataAbort, Exception, InsnAbort};
+use manual_words::operation::Group;
 use system::decode::Encoding;
 
 // The words of a line that are not read yet, and the column of its end.
@@ -35,24 +37,26 @@ impl<'a> Reader<'a> {
     }
 
     fn exception(&mut self) -> Result<Exception, Refusal> {
-        let name = self.word()?;
-        Ok(match name.text {
-            b"und" => Exception::Undefined,
-            b"svc" => Exception::Svc(self.next()?),
-            b"hvc" => Exception::Hvc(self.next()?),
-            b"smc" => Exception::Smc(self.next()?),
-            b"brk" => Exception::Brk(self.next()?),
-            b"data" => Exception::DataAbort(DataAbort {
+        let word = self.word()?;
+        let Some(name) = names::exception(word.text) else {
+            return Err(word.refused(Reason::NoSuchException));
+        };
+        Ok(match name {
+            ExceptionName::Undefined => Exception::Undefined,
+            ExceptionName::Svc => Exception::Svc(self.next()?),
+            ExceptionName::Hvc => Exception::Hvc(self.next()?),
+            ExceptionName::Smc => Exception::Smc(self.next()?),
+            ExceptionName::Brk => Exception::Brk(self.next()?),
+            ExceptionName::DataAbort => Exception::DataAbort(DataAbort {
                 addr: self.next()?,
-                write: self.next()?,
+                write: self.next::<Write>()?.0,
                 fault: fault::first(self.next()?),
             }),
-            b"insn" => Exception::InsnAbort(InsnAbort {
+            ExceptionName::InsnAbort => Exception::InsnAbort(InsnAbort {
                 addr: self.next()?,
                 fault: fault::first(self.next()?),
             }),
-            b"pca" => Exception::PcAlignment,
-            _ => return Err(name.refused(Reason::NoSuchException)),
+            ExceptionName::PcAlignment => Exception::PcAlignment,
         })
     }
 
@@ -66,6 +70,21 @@ impl<'a> Reader<'a> {
         })
     }
 
+    // AT, DC, IC or TLBI: the operation's name, which a comma may end, and the register that some take.
+    fn maintenance(&mut self, group: Group) -> Result<Call, Refusal> {
+        let word = self.word()?;
+        let name = word.text.strip_suffix(b",").unwrap_or(word.text);
+        let Some(operation) = group.operation(name) else {
+            return Err(word.refused(Reason::NoSuchOperation(group.nearest(name))));
+        };
+        let rt = if operation.has_operand() {
+            self.next::<General>()?.0
+        } else {
+            31
+        };
+        Ok(Call::System(operation.encoding(rt)))
+    }
+
     fn call(&mut self, name: Word<'_>) -> Result<Call, Refusal> {
         Ok(match name.text {
             b"tr" => Call::Translate(self.next()?, self.next()?),
@@ -75,13 +94,16 @@ impl<'a> Reader<'a> {
             b"st" => Call::Store(self.next()?, self.wide()?, self.next()?),
             b"if" => Call::Fetch(self.next()?),
             b"sys" => Call::System(self.encoding()?),
-            b"reg" => Call::Register(self.next()?, self.next()?),
+            b"reg" => Call::Register(self.next::<Key>()?.0, self.next()?),
             b"level" => Call::Level(self.wide()?),
             b"mark" => Call::Mark(self.next()?),
-            b"x" => Call::General(self.wide()?, self.next()?),
+            b"x" => Call::General(self.next::<General>()?.0, self.next()?),
             b"abort" => Call::Abort(self.exception()?),
             b"census" => Call::Census(self.next()?, self.next()?),
-            _ => return Err(name.refused(Reason::NoSuchLine)),
+            _ => match Group::named(name.text) {
+                Some(group) => self.maintenance(group)?,
+                None => return Err(name.refused(names::no_such_line(name.text))),
+            },
         })
     }
 
@@ -93,7 +115,7 @@ impl<'a> Reader<'a> {
             b"l-walk" => Leaf::Walk(self.next()?, self.next()?),
             b"l-bits" => Leaf::PaBits(self.next()?),
             b"l-perm" => Leaf::Permissions(self.next()?),
-            b"l-bank" => Leaf::Bank(self.next()?),
+            b"l-bank" => Leaf::Bank(self.next::<Key>()?.0),
             b"l-vec" => Leaf::Vector {
                 from: self.wide()?,
                 to: self.wide()?,
@@ -105,7 +127,7 @@ impl<'a> Reader<'a> {
                 pc: self.next()?,
                 exception: self.exception()?,
             },
-            _ => return Err(name.refused(Reason::NoSuchLine)),
+            _ => return Err(name.refused(names::no_such_line(name.text))),
         })
     }
 
@@ -117,7 +139,7 @@ impl<'a> Reader<'a> {
             b"p-gen" => Poke::Generation(self.next()?),
             b"p-cnt" => Poke::Counters(self.next()?),
             b"p-bc" => Poke::Broadcast,
-            _ => return Err(name.refused(Reason::NoSuchLine)),
+            _ => return Err(name.refused(names::no_such_line(name.text))),
         })
     }
 
@@ -144,7 +166,7 @@ impl<'a> Reader<'a> {
                 level: self.next()?,
                 pa: self.next()?,
             },
-            _ => return Err(name.refused(Reason::NoSuchLine)),
+            _ => return Err(name.refused(names::no_such_line(name.text))),
         })
     }
 

@@ -3,10 +3,16 @@ use thiserror::Error;
 
 #[derive(Clone, Copy, Debug, Error)]
 pub enum Reason {
-    #[error("no line of a trace has this name")]
-    NoSuchLine,
+    #[error("no line of a trace has this name (the nearest is {0})")]
+    NoSuchLine(&'static str),
     #[error("no such exception (und, svc, hvc, smc, brk, data, insn, pca)")]
     NoSuchException,
+    #[error("neither a hexadecimal number nor a register (the nearest is {0})")]
+    NoSuchRegister(&'static str),
+    #[error("no such operation (the nearest is {0})")]
+    NoSuchOperation(&'static str),
+    #[error("no general register (x0 to x30, xzr, or the number as sys has it)")]
+    NotGeneral,
     #[error("an argument is missing")]
     Missing,
     #[error("a word after the last argument: a line has one operation")]

@@ -1,8 +1,8 @@
 // What an access gets: from a walk made now, and from the core, cache and all.
-use crate::fields::Status;
 use cpu::Core;
 use cpu::call::{Call, Reply};
 use fault::Fault;
+use manual_words::status::Status;
 use std::fmt;
 use sysreg::regs::Regime;
 use tlb::access::Kind;

@@ -2,12 +2,15 @@
 use crate::answer::{Source, Told};
 use crate::{levels, registers};
 use cpu::Core;
+use manual_words::memory;
+use manual_words::memory::{Memory, Shareability};
 use std::io;
 use std::io::Write;
 use sysreg::regs::Regime;
 use tlb::access::Kind;
 use tlb::count::Tally;
 use tlb::{access, count};
+use walk::level::Leaf;
 
 fn kind_name(kind: Kind) -> &'static str {
     match kind {
@@ -40,6 +43,20 @@ fn flat_meaning(fits: bool, whole: bool) -> &'static str {
     } else {
         "the address without its tag is the physical address"
     }
+}
+
+// What the leaf's attribute says, by the regime's MAIR, and its SH.
+fn show_memory<W: Write>(out: &mut W, core: &Core, regime: Regime, leaf: &Leaf) -> io::Result<()> {
+    let desc = leaf.desc;
+    let index = (desc >> 2 & 7) as u8;
+    let attribute = memory::attribute(core.sys.mair[regime.index()], index);
+    let sharing = Shareability::new((desc >> 8 & 3) as u8);
+    write!(
+        out,
+        "memory     MAIR_EL{}.Attr{index} is {attribute:02x}: ",
+        u64::from(regime)
+    )?;
+    writeln!(out, "{}, {sharing}", Memory::new(attribute))
 }
 
 // A stale cache is seen here.
@@ -83,6 +100,9 @@ pub fn explain<W: Write>(
     let now = if on {
         let steps = levels::walk(bank, regime, page, base, ram);
         write!(out, "{steps}")?;
+        if let Ok(leaf) = &steps.answer {
+            show_memory(out, core, regime, leaf)?;
+        }
         Told::of_walk(core, steps.answer, regime, kind, va)
     } else {
         let flat = access::flat(&bank, regime, va);

@@ -1,4 +1,4 @@
-// Bits, rights and fault statuses, as numbers, letters and words.
+// Bits and rights, as numbers and letters.
 use std::fmt;
 use sysreg::regs::Regime;
 
@@ -29,50 +29,5 @@ impl fmt::Display for Rights {
             Regime::El2 => write!(f, "EL2 {own}"),
             Regime::El3 => write!(f, "EL3 {own}"),
         }
-    }
-}
-
-/// What a fault status says, but for its level.
-#[derive(Clone, Copy)]
-pub enum Cause {
-    AddressSize,
-    Translation,
-    AccessFlag,
-    Permission,
-    External,
-    ExternalOnWalk,
-    Other,
-}
-
-/// A fault status, as DFSC and IFSC have it.
-#[derive(Clone, Copy)]
-pub struct Status(pub u8);
-
-impl Status {
-    pub fn cause(self) -> Cause {
-        match self.0 / 4 % 16 {
-            0 => Cause::AddressSize,
-            1 => Cause::Translation,
-            2 => Cause::AccessFlag,
-            3 => Cause::Permission,
-            4 => Cause::External,
-            5 => Cause::ExternalOnWalk,
-            _ => Cause::Other,
-        }
-    }
-}
-
-impl fmt::Display for Status {
-    fn fmt<W: fmt::Write>(&self, f: &mut fmt::Formatter<W>) -> fmt::Result {
-        let cause = match self.cause() {
-            Cause::AddressSize => "address size fault",
-            Cause::Translation => "translation fault",
-            Cause::AccessFlag => "access flag fault",
-            Cause::Permission => "permission fault",
-            Cause::External => "external abort",
-            Cause::ExternalOnWalk => "external abort on a table walk",
-            Cause::Other => "another fault",
-        };
-        write!(f, "{cause}, level {}", self.0 % 4)
     }
 }

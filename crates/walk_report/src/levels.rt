@@ -3,7 +3,8 @@ ghost use Rattle.std.specs.Prelude.{◌≡◌};
 ghost use Rattle.word.specs.Ram.{word_at};
 ghost use Rattle.walk.specs.Walk.{walk_of};
 
-use crate::fields::{Rights, Status, bit};
+use crate::fields::{Rights, bit};
+use manual_words::status::Status;
 use std::fmt;
 use sysreg::regs::Regime;
 use walk::level::{Leaf, Step, Walked};

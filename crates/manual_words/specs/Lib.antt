@@ -1,0 +1,6 @@
+-- What the contracts of `manual_words` cite.
+pub mod Operations
+pub mod Status
+pub mod Memory
+pub mod Par
+pub mod Syndrome
