@@ -1,5 +1,5 @@
-//! The core as plain Rust, the crate `bindings/rust`: what rustc makes of the text that was proved. It runs by its methods;
-//! what it holds is what it saves, after every operation, and what it shall hold it is restored from.
+//! The core as plain Rust, the crate `bindings/rust`: what rustc makes of the text that was proved. It runs by its
+//! methods; what it holds is what it saves, after every operation, and what it shall hold it is restored from.
 use crate::census::{COUNTS, FLAT, RIGHTS, STATUS};
 use crate::ffi::{boxed, poke, state_of, Words, RETIRED};
 use crate::op::{Ans, Op};

@@ -2,10 +2,8 @@
 //! The physical address with stage 1 off.
 
 use crate::stage1::sysreg::regs::Regime;
+use crate::stage1::walk::range::PA_BITS;
 use crate::stage1::walk::regime::Bank;
-
-/// The implemented size of a physical address, in bits (`ID_AA64MMFR0_EL1.PARange`).
-const PA_BITS: u32 = 44;
 
 /// The physical address of an untagged address with stage 1 off. `None` is an address size fault of level 0
 /// (DDI 0487, AArch64.TranslateAddressS1Off).

@@ -25,12 +25,15 @@ pub struct Range {
 /// Where a walk begins, or the status of the fault that keeps it from beginning.
 pub type Begin = Result<WalkState, u8>;
 
-/// `TCR.{I}PS` to a number of bits: the smallest of 32 plus four times the code, 36 plus twice the code, and the A72's
-/// 44.
+/// The implemented size of a physical address, in bits (`ID_AA64MMFR0_EL1.PARange`).
+pub const PA_BITS: u64 = 44;
+
+/// `TCR.{I}PS` to a number of bits: the smallest of 32 plus four times the code, 36 plus twice the code, and the
+/// implemented size.
 #[inline(always)]
 pub fn pa_bits(ps: u64) -> u64 {
     let code = ps % 8;
-    (32 + 4 * code).min(36 + 2 * code).min(44)
+    (32 + 4 * code).min(36 + 2 * code).min(PA_BITS)
 }
 
 impl Bank {
