@@ -1,0 +1,112 @@
+//! What the core is asked, written as a trace that the tool `a72` reads.
+use std::fmt;
+use std::fs::File;
+use std::io::{self, BufWriter, Write};
+
+use super::Inval;
+use a72::{registers, Core, Ram};
+
+/// A trace that is being written, or none. A copy of a core does not go on with it.
+#[derive(Default)]
+pub(super) struct Recording(Option<Box<Trace>>);
+
+struct Trace {
+    out: BufWriter<File>,
+    path: String,
+    /// Whether the window of RAM stands in the trace.
+    begun: bool,
+}
+
+impl Clone for Recording {
+    fn clone(&self) -> Recording {
+        Recording(None)
+    }
+}
+
+impl Recording {
+    /// A trace in a file. RAM goes to `PATH.ram` when the first access shows it.
+    pub(super) fn to(path: &str) -> io::Result<Recording> {
+        Ok(Recording(Some(Box::new(Trace {
+            out: BufWriter::new(File::create(path)?),
+            path: path.into(),
+            begun: false,
+        }))))
+    }
+
+    #[inline(always)]
+    pub(super) fn is_on(&self) -> bool {
+        self.0.is_some()
+    }
+
+    /// A line, if anything is recorded. What cannot be written ends the recording.
+    #[inline]
+    pub(super) fn line(&mut self, line: fmt::Arguments) {
+        if let Some(trace) = &mut self.0 {
+            if let Err(e) = writeln!(trace.out, "{line}") {
+                self.fails(e);
+            }
+        }
+    }
+
+    #[cold]
+    fn fails(&mut self, e: io::Error) {
+        if let Some(trace) = self.0.take() {
+            eprintln!("{}: {e}: the recording ends here", trace.path);
+        }
+    }
+
+    /// An access that is about to be made over this RAM.
+    pub(super) fn access(&mut self, ram: &Ram, line: fmt::Arguments) {
+        match &mut self.0 {
+            Some(trace) if !trace.begun => {
+                trace.begun = true;
+                if let Err(e) = trace.begin(ram) {
+                    self.fails(e);
+                }
+            }
+            _ => {}
+        }
+        self.line(line);
+    }
+
+    /// An invalidation, as a `TLBI` that asks for it: at a level and in a regime that may.
+    pub(super) fn invalidated(&mut self, what: Inval, core: &Core) {
+        if !self.is_on() {
+            return;
+        }
+        let tcr = |key| core.register(key).unwrap_or(0);
+        let four_k = |key| tcr(key) >> 14 & 3 == 0;
+        let wide = tcr(registers::TCR_EL1) >> 36 & 1 != 0;
+        // op1 and op2, and the general register's value.
+        let (op1, op2, value) = match what {
+            Inval::Page(page) if four_k(registers::TCR_EL1) && tcr(registers::TCR_EL1) >> 30 & 3 == 2 => {
+                (0, 1, page)
+            }
+            Inval::Page(page) if four_k(registers::TCR_EL2) => (4, 1, page),
+            Inval::Page(page) if four_k(registers::TCR_EL3) => (6, 1, page),
+            Inval::Asid(asid) if wide || asid <= 0xFF => (0, 2, u64::from(asid) << 48),
+            // No TLBI asks for less: it drops more here than in the run.
+            Inval::All | Inval::Page(_) | Inval::Asid(_) => (0, 0, 0),
+        };
+        let level = core.level();
+        let needed = level.max(op1 / 2).max(1);
+        if needed != level {
+            self.line(format_args!("level {needed:x}"));
+        }
+        self.line(format_args!("x 0 {value:x}"));
+        self.line(format_args!("sys {op1:x} 8 7 {op2:x} 0"));
+        if needed != level {
+            self.line(format_args!("level {level:x}"));
+        }
+    }
+}
+
+impl Trace {
+    /// The window, and RAM as it is now.
+    fn begin(&mut self, ram: &Ram) -> io::Result<()> {
+        let image = format!("{}.ram", self.path);
+        std::fs::write(&image, &*ram.bytes)?;
+        writeln!(self.out, "window {:x} {:x}", ram.base, ram.bytes.len())?;
+        writeln!(self.out, "load {image} {:x}", ram.base)
+    }
+}
