@@ -21,9 +21,9 @@ struct Mistake<'a> {
     new: &'a str,
 }
 
-/// Blocks of `== NAME: FILE`, the old text, `--`, the new text.
+/// Blocks of a line `== NAME: FILE`, the old text, `--`, the new text.
 fn mistakes(text: &str) -> Vec<Mistake<'_>> {
-    let blocks = text.split("== ").skip(1).enumerate();
+    let blocks = text.split("\n== ").skip(1).enumerate();
     blocks
         .map(|(i, block)| {
             let (head, texts) = block.split_once('\n').unwrap();
@@ -42,7 +42,7 @@ fn mistakes(text: &str) -> Vec<Mistake<'_>> {
 fn with_mistakes(mut text: String, file: &str, mistakes: &[Mistake]) -> String {
     for m in mistakes.iter().filter(|m| m.file == file) {
         assert_eq!(text.matches(m.old).count(), 1, "mistake {}: {}", m.number, m.old);
-        // A statement stays one, an expression gets brackets.
+        // A statement stays one, an expression gets brackets. What stood there comes last, for another mistake of it.
         let (old, new) = (m.old, m.new);
         let both = match old.ends_with([';', '}']) {
             true => format!("if crate::mistake({}) {{ {new} }} else {{ {old} }}", m.number),

@@ -62,10 +62,6 @@ pub const fn movk(rd: u32, imm: u32, hw: u32) -> u32 {
     0xF280_0000 | hw << 21 | (imm & 0xFFFF) << 5 | rd
 }
 
-pub const fn mov(rd: u32, rm: u32) -> u32 {
-    0xAA00_03E0 | rm << 16 | rd
-}
-
 pub const fn add_imm(rd: u32, rn: u32, imm: u32) -> u32 {
     0x9100_0000 | imm << 10 | rn << 5 | rd
 }
@@ -236,10 +232,6 @@ impl Asm {
 
     pub fn go(&mut self, label: &'static str) -> &mut Asm {
         self.jump(0x1400_0000, label)
-    }
-
-    pub fn bl(&mut self, label: &'static str) -> &mut Asm {
-        self.jump(0x9400_0000, label)
     }
 
     /// Branch if a condition holds: 0 EQ, 1 NE, 2 HS, 3 LO.

@@ -3,15 +3,22 @@ mod bus;
 mod directed;
 mod encode;
 mod pair;
+mod random;
+mod rng;
 mod scene;
 mod side;
 mod voices;
+mod wander;
+mod world;
 
 use pair::Pair;
 use scene::Guest;
 use side::Side;
 
+use std::sync::atomic::Ordering;
+
 type Proved = proved::aarch64::Cpu;
+type Mistaken = mistaken::aarch64::Cpu;
 
 /// A directed guest to its end; how many steps it took.
 fn play<B: Side>(guest: &Guest) -> Result<u64, String> {
@@ -42,10 +49,11 @@ fn play<B: Side>(guest: &Guest) -> Result<u64, String> {
     Ok(pair.steps)
 }
 
-fn main() {
+/// Every directed guest; how many went wrong.
+fn directed<B: Side>() -> usize {
     let mut wrong = 0;
     for guest in directed::all().iter().chain(&voices::all()) {
-        match play::<Proved>(guest) {
+        match play::<B>(guest) {
             Ok(steps) => println!(
                 "{:30} {steps} steps, {} results as known",
                 guest.name,
@@ -57,5 +65,50 @@ fn main() {
             }
         }
     }
+    wrong
+}
+
+/// Each mistake of mistakes.txt: the first guest that shows it. How many none does.
+fn mistakes(seeds: u64) -> usize {
+    let list = include_str!("../../mistakes.txt");
+    let names: Vec<&str> = list
+        .split("\n== ")
+        .skip(1)
+        .map(|block| block.lines().next().unwrap_or(""))
+        .collect();
+    let mut missed = 0;
+    for (n, name) in (1..).zip(&names) {
+        mistaken::MISTAKE.store(n, Ordering::Relaxed);
+        let guests: Vec<Guest> = directed::all().into_iter().chain(voices::all()).collect();
+        let caught: Vec<&str> = guests
+            .iter()
+            .filter(|g| play::<Mistaken>(g).is_err())
+            .map(|g| g.name)
+            .collect();
+        let seed = (1..seeds).find(|seed| wander::seed::<Mistaken>(*seed, 4000).differs.is_some());
+        if caught.is_empty() && seed.is_none() {
+            missed += 1;
+        }
+        let seed = seed.map_or("no seed".into(), |seed| format!("seed {seed}"));
+        println!("{n:2} {name}: {} directed, {seed}", caught.len());
+    }
+    println!("{} of {} mistakes caught", names.len() - missed, names.len());
+    missed
+}
+
+fn main() {
+    // A panic is an answer here.
+    std::panic::set_hook(Box::new(|_| ()));
+    let words: Vec<String> = std::env::args().skip(1).collect();
+    let number = |n: usize, default: u64| words.get(n).map_or(Ok(default), |w| w.parse()).expect("a number");
+    let wrong = match words.first().map(String::as_str) {
+        Some("directed") => directed::<Proved>(),
+        Some("random") => wander::seeds::<Proved>(number(1, 1), number(2, 200), number(3, 4000)),
+        Some("mistakes") => mistakes(number(1, 400)),
+        _ => {
+            eprintln!("usage: guests directed | random FROM TO STEPS | mistakes SEEDS");
+            std::process::exit(2);
+        }
+    };
     std::process::exit(i32::from(wrong != 0));
 }

@@ -1,7 +1,9 @@
 //! Two pimus on one guest: every step is made by both, and all that they show is compared.
 use crate::bus::{Bus, Event};
+use crate::encode::PAR_EL1;
 use crate::side::{Cache, Counts, Ended, Side};
 use std::collections::BTreeMap;
+use std::panic::{catch_unwind, AssertUnwindSafe};
 
 pub type Published = pimu::aarch64::Cpu;
 
@@ -17,6 +19,8 @@ pub struct Pair<B> {
     pub bus_a: Bus,
     pub bus_b: Bus,
     pub steps: u64,
+    /// Whether broadcasts wait for a few steps, as a run loop may have it.
+    pub lazy: bool,
     /// How often what happened.
     pub seen: BTreeMap<String, u64>,
     counts: Vec<Counts>,
@@ -29,6 +33,13 @@ fn same<T: PartialEq + std::fmt::Debug>(what: &str, a: &T, b: &T) -> Result<(), 
     Err(format!("{what}\n  published {a:x?}\n  proved    {b:x?}"))
 }
 
+fn one(core: &mut impl Side, word: Option<u32>, bus: &mut Bus) -> Ended {
+    match word {
+        None => Side::step(core, bus),
+        Some(word) => core.inject(word, bus),
+    }
+}
+
 impl<B: Side> Pair<B> {
     pub fn new(bus: Bus, cores: usize) -> Pair<B> {
         let a: Vec<Published> = (0..cores).map(|id| Side::with_id(id as u32)).collect();
@@ -39,6 +50,7 @@ impl<B: Side> Pair<B> {
             bus_b: bus.clone(),
             bus_a: bus,
             steps: 0,
+            lazy: false,
             seen: BTreeMap::new(),
         }
     }
@@ -55,16 +67,54 @@ impl<B: Side> Pair<B> {
 
     /// One instruction of a core on both sides.
     pub fn step(&mut self, n: usize) -> Result<Ended, String> {
+        self.both(n, None)
+    }
+
+    /// The same of an instruction that was not fetched.
+    pub fn inject(&mut self, n: usize, word: u32) -> Result<Ended, String> {
+        self.both(n, Some(word))
+    }
+
+    fn both(&mut self, n: usize, word: Option<u32>) -> Result<Ended, String> {
         let (a, b) = (&mut self.a[n], &mut self.b[n]);
-        let pc = a.pc();
-        let ended = Side::step(a, &mut self.bus_a);
-        let other = Side::step(b, &mut self.bus_b);
+        let (pc, flat) = (a.pc(), a.flat());
+        let Ok(ended) = catch_unwind(AssertUnwindSafe(|| one(a, word, &mut self.bus_a))) else {
+            return Ok(Ended::Vector);
+        };
+        let other = catch_unwind(AssertUnwindSafe(|| one(b, word, &mut self.bus_b)));
+        let other = other.map_err(|_| format!("core {n} panics at {pc:x}, on the proved core alone"))?;
         self.steps += 1;
+        if self.device_table(n, &other) {
+            return Ok(Ended::DeviceTable);
+        }
+        if flat && self.flat_address(n, &ended) {
+            return Ok(Ended::Flat);
+        }
         self.compare(n, &ended, &other)
             .map_err(|e| format!("step {} of core {n} at {pc:x}: {e}", self.steps))?;
         self.tally(&ended);
         self.spread(n);
         Ok(ended)
+    }
+
+    /// Whether this step's access, or its AT, was of an address from 2^44 on, where stage 1 is off.
+    fn flat_address(&self, n: usize, ended: &Ended) -> bool {
+        let par = |plain: &BTreeMap<u32, u64>| plain.get(&PAR_EL1).copied();
+        let (a, b) = (par(self.a[n].plain()), par(self.b[n].plain()));
+        matches!(ended, Ended::Took((5 | 6, 0x1000_0000_0000.., ..))) || a != b && b == Some(0x801)
+    }
+
+    /// Whether this step's walk read a table where a device is: the published one asked it, the proved one ended in an
+    /// external abort, taken or in PAR_EL1.
+    fn device_table(&self, n: usize, other: &Ended) -> bool {
+        let reads = |log: &[Event]| log.iter().filter(|e| e.what == 'd').count();
+        let external = |status: u64| (0x14..0x18).contains(&status);
+        let par = self.b[n].plain().get(&PAR_EL1).copied().unwrap_or(0);
+        reads(&self.bus_a.log) > reads(&self.bus_b.log)
+            && match other {
+                Ended::Took((5 | 6, _, _, fsc)) => external((*fsc).into()),
+                _ => par & 1 != 0 && external(par >> 1 & 63),
+            }
     }
 
     fn compare(&mut self, n: usize, ended: &Ended, other: &Ended) -> Result<(), String> {
@@ -109,6 +159,7 @@ impl<B: Side> Pair<B> {
             Ended::Interrupt => "interrupt".into(),
             Ended::Unimplemented(_) => "unimplemented".into(),
             Ended::Unsupported => "unsupported".into(),
+            Ended::Vector | Ended::DeviceTable | Ended::Flat => return,
         };
         *self.seen.entry(what).or_default() += 1;
     }
@@ -117,7 +168,10 @@ impl<B: Side> Pair<B> {
     fn spread(&mut self, n: usize) {
         let written: Vec<Event> = self.bus_a.log.drain(..).filter(|e| e.what == 'w').collect();
         self.bus_b.log.clear();
-        let (what_a, what_b) = (self.a[n].take_broadcast(), self.b[n].take_broadcast());
+        let (what_a, what_b) = match self.lazy && self.steps % 5 != 0 {
+            true => (None, None),
+            false => (self.a[n].take_broadcast(), self.b[n].take_broadcast()),
+        };
         let (sev_a, sev_b) = (self.a[n].take_sev(), self.b[n].take_sev());
         for other in (0..self.a.len()).filter(|other| *other != n) {
             let (a, b) = (&mut self.a[other], &mut self.b[other]);

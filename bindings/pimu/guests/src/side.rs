@@ -11,6 +11,12 @@ pub enum Ended {
     Interrupt,
     Unimplemented(u32),
     Unsupported,
+    /// A vector instruction, which pimu's stub does not have.
+    Vector,
+    /// A table in a device's page: pimu's walk reads the device, the proved core's does not.
+    DeviceTable,
+    /// An address from 2^44 on with stage 1 off: pimu takes it as it is, the proved core as the manual has it.
+    Flat,
 }
 
 /// An exception: its number in pimu's enum, address or immediate, write, status.
@@ -34,6 +40,7 @@ pub struct Registers {
     pub banks: [[u64; 4]; 9],
     pub single: [u64; 8],
     pub others: [u64; 8],
+    pub v: [u128; 32],
     pub exclusive: Option<(u64, u32, u64)>,
     pub event: (bool, bool),
     pub abort_pa: u64,
@@ -73,19 +80,22 @@ pub trait Cache {
 }
 
 pub trait Side: Cache + Clone {
-    const NAME: &'static str;
     fn with_id(id: u32) -> Self;
+    /// `step_system`.
     fn step(&mut self, bus: &mut Bus) -> Ended;
+    /// An instruction that was not fetched, as a run loop makes it that keeps what it fetched before.
+    fn inject(&mut self, word: u32, bus: &mut Bus) -> Ended;
     fn registers(&self) -> Registers;
     fn plain(&self) -> &BTreeMap<u32, u64>;
     fn counts(&self) -> Counts;
     fn fetch_hint(&self) -> Option<(u64, u32, u64)>;
     fn pc(&self) -> u64;
-    fn el(&self) -> u32;
+    /// Whether stage 1 is off at the level.
+    fn flat(&self) -> bool;
     fn set_pc(&mut self, pc: u64);
-    fn set_x(&mut self, n: usize, value: u64);
     fn take_broadcast(&mut self) -> Option<Inval>;
     fn invalidate(&mut self, what: Inval);
+    fn flush(&mut self);
     fn snoop(&mut self, lo: u64, hi: u64);
     fn take_sev(&mut self) -> bool;
     fn set_event(&mut self);
@@ -94,34 +104,47 @@ pub trait Side: Cache + Clone {
     fn poked(&mut self, pa: u64, value: u64);
 }
 
-macro_rules! side {
-    ($pimu:ident, $name:literal) => {
-        impl Side for $pimu::aarch64::Cpu {
-            const NAME: &'static str = $name;
+macro_rules! ended {
+    ($pimu:ident, $step:expr) => {{
+        use $pimu::aarch64::{Exception, Step};
+        match $step {
+            Step::Retired => Ended::Retired,
+            Step::Wfi | Step::Wfe => Ended::Waits,
+            Step::Interrupt { .. } => Ended::Interrupt,
+            Step::Unimplemented(insn) => Ended::Unimplemented(insn),
+            Step::Unsupported(_) => Ended::Unsupported,
+            Step::Exception(e) | Step::Took(e) => Ended::Took(match e {
+                Exception::Undefined => (0, 0, false, 0),
+                Exception::Svc(i) => (1, i.into(), false, 0),
+                Exception::Hvc(i) => (2, i.into(), false, 0),
+                Exception::Smc(i) => (3, i.into(), false, 0),
+                Exception::Brk(i) => (4, i.into(), false, 0),
+                Exception::DataAbort { addr, write, fsc } => (5, addr, write, fsc),
+                Exception::InsnAbort { addr, fsc } => (6, addr, false, fsc),
+                Exception::PcAlignment => (7, 0, false, 0),
+            }),
+        }
+    }};
+}
 
+macro_rules! side {
+    ($pimu:ident) => {
+        impl Side for $pimu::aarch64::Cpu {
             fn with_id(id: u32) -> Self {
                 Self::with_id(id)
             }
 
             fn step(&mut self, bus: &mut Bus) -> Ended {
-                use $pimu::aarch64::{Exception, Step};
-                match self.step_system(bus) {
-                    Step::Retired => Ended::Retired,
-                    Step::Wfi | Step::Wfe => Ended::Waits,
-                    Step::Interrupt { .. } => Ended::Interrupt,
-                    Step::Unimplemented(insn) => Ended::Unimplemented(insn),
-                    Step::Unsupported(_) => Ended::Unsupported,
-                    Step::Exception(e) | Step::Took(e) => Ended::Took(match e {
-                        Exception::Undefined => (0, 0, false, 0),
-                        Exception::Svc(i) => (1, i.into(), false, 0),
-                        Exception::Hvc(i) => (2, i.into(), false, 0),
-                        Exception::Smc(i) => (3, i.into(), false, 0),
-                        Exception::Brk(i) => (4, i.into(), false, 0),
-                        Exception::DataAbort { addr, write, fsc } => (5, addr, write, fsc),
-                        Exception::InsnAbort { addr, fsc } => (6, addr, false, fsc),
-                        Exception::PcAlignment => (7, 0, false, 0),
-                    }),
+                ended!($pimu, self.step_system(bus))
+            }
+
+            fn inject(&mut self, word: u32, bus: &mut Bus) -> Ended {
+                use $pimu::aarch64::Step;
+                let step = self.step_fetched(word, bus);
+                if let Step::Exception(e) = step {
+                    self.take_sync(e);
                 }
+                ended!($pimu, step)
             }
 
             fn registers(&self) -> Registers {
@@ -152,6 +175,7 @@ macro_rules! side {
                         self.irq_line.into(),
                         self.fiq_line.into(),
                     ],
+                    v: self.v,
                     exclusive: self.exclusive_mark(),
                     event: (self.event, self.sev),
                     abort_pa: self.abort_pa,
@@ -187,16 +211,14 @@ macro_rules! side {
                 self.pc
             }
 
-            fn el(&self) -> u32 {
-                self.el
+            fn flat(&self) -> bool {
+                let s = &self.sys;
+                let by_el2 = self.el < 2 && s.scr_el3 & 1 != 0 && s.hcr_el2 & (1 << 12 | 1 << 27) != 0;
+                by_el2 || s.sctlr[self.el.max(1) as usize] & 1 == 0
             }
 
             fn set_pc(&mut self, pc: u64) {
                 self.pc = pc;
-            }
-
-            fn set_x(&mut self, n: usize, value: u64) {
-                self.x[n] = value;
             }
 
             fn take_broadcast(&mut self) -> Option<Inval> {
@@ -211,6 +233,10 @@ macro_rules! side {
                     Inval::Page(page) => $pimu::aarch64::mmu::Inval::Page(page),
                     Inval::Asid(asid) => $pimu::aarch64::mmu::Inval::Asid(asid),
                 });
+            }
+
+            fn flush(&mut self) {
+                self.tlb.flush();
             }
 
             fn snoop(&mut self, lo: u64, hi: u64) {
@@ -277,9 +303,9 @@ macro_rules! side {
     };
 }
 
-side!(pimu, "pimu as published");
-side!(proved, "pimu on the proved core");
-side!(mistaken, "pimu on the proved core, with a mistake");
+side!(pimu);
+side!(proved);
+side!(mistaken);
 side!(cache proved);
 side!(cache mistaken);
 
