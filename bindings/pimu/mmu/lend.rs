@@ -1,5 +1,5 @@
 //! RAM, lent by the bus to the core for one operation.
-use std::cell::Cell;
+use std::cell::RefCell;
 
 use crate::aarch64::Memory;
 use a72::Ram;
@@ -8,9 +8,18 @@ use a72::Ram;
 /// has it: keys have 16 bits.
 const LEND: u32 = u32::MAX;
 
+/// RAM away from its bus, and the physical address of its first byte.
+struct Lent {
+    base: u64,
+    bytes: Vec<u8>,
+    /// Whether a bus lent it: what has no RAM is not taken for RAM of no bytes.
+    here: bool,
+}
+
 thread_local! {
-    /// RAM on its way between the bus and the core, and its physical address.
-    static LENT: Cell<Option<(u64, Vec<u8>)>> = const { Cell::new(None) };
+    static LENT: RefCell<Lent> = const {
+        RefCell::new(Lent { base: 0, bytes: Vec::new(), here: false })
+    };
 }
 
 /// What a bus calls first in its `Memory::sysreg_write`: its RAM, which begins at physical address `base`, is handed to
@@ -23,11 +32,15 @@ where
     if key != LEND {
         return false;
     }
-    if value == 1 {
-        LENT.set(Some((base, std::mem::take(ram).into())));
-    } else if let Some((_, bytes)) = LENT.take() {
-        *ram = bytes.into();
-    }
+    LENT.with_borrow_mut(|lent| {
+        lent.here = value == 1;
+        if lent.here {
+            lent.base = base;
+            lent.bytes = std::mem::take(ram).into();
+        } else {
+            *ram = std::mem::take(&mut lent.bytes).into();
+        }
+    });
     true
 }
 
@@ -35,11 +48,10 @@ where
 #[inline]
 pub(super) fn with_ram<M: Memory + ?Sized, T>(mem: &mut M, ask: impl FnOnce(&mut Ram) -> T) -> T {
     mem.sysreg_write(LEND, 1);
-    let (base, mut bytes) = LENT
-        .take()
-        .expect("the bus lends its RAM: its sysreg_write calls mmu::lends");
-    let answer = ask(&mut Ram::new(base, &mut bytes));
-    LENT.set(Some((base, bytes)));
+    let answer = LENT.with_borrow_mut(|lent| {
+        assert!(lent.here, "the bus lends no RAM: its sysreg_write calls mmu::lends");
+        ask(&mut Ram::new(lent.base, &mut lent.bytes))
+    });
     mem.sysreg_write(LEND, 0);
     answer
 }

@@ -48,6 +48,10 @@ impl Recording {
         }
     }
 
+    pub(super) fn end(&mut self) -> io::Result<()> {
+        self.0.take().map_or(Ok(()), |mut trace| trace.out.flush())
+    }
+
     #[cold]
     fn fails(&mut self, e: io::Error) {
         if let Some(trace) = self.0.take() {

@@ -50,6 +50,8 @@ struct Shape {
     ttbr1_el1: u64,
     scr_el3: u64,
     hcr_el2: u64,
+    /// For `AT` alone, and told when that asks.
+    mair: [u64; 4],
 }
 
 impl Shape {
@@ -62,9 +64,11 @@ impl Shape {
             ttbr1_el1: s.ttbr1_el1,
             scr_el3: s.scr_el3,
             hcr_el2: s.hcr_el2,
+            mair: s.mair,
         }
     }
 
+    /// Whether the registers that every access reads are these.
     #[inline]
     fn is(&self, s: &SysRegs) -> bool {
         self.sctlr == s.sctlr
@@ -76,7 +80,7 @@ impl Shape {
     }
 }
 
-/// The registers that the core is told, and their values in pimu; `MAIR` is for `AT` alone.
+/// The registers that the core is told, and their values in pimu.
 fn told(s: &SysRegs) -> [(registers::Key, u64); 15] {
     [
         (registers::SCTLR_EL1, s.sctlr[1]),
@@ -154,13 +158,21 @@ impl Tlb {
     }
 
     /// From now on write what the core is asked as a trace for `a72`, and RAM as the next access finds it beside it
-    /// (`PATH.ram`). The TLB is emptied first: a trace begins with a fresh core.
+    /// (`PATH.ram`). It begins with a fresh core: what the TLB held and counted is gone.
     pub fn record(&mut self, path: &str) -> io::Result<()> {
         self.recording = Recording::to(path)?;
         self.core = Core::new();
         self.told = Shape::of(&SysRegs::new(0));
-        self.flush();
+        self.asked = Asked::Nothing;
+        self.late.clear();
+        self.hints = false;
         Ok(())
+    }
+
+    /// The recording ends here, and its last lines are written.
+    pub fn end_recording(&mut self) -> io::Result<()> {
+        self.hints = self.asked == Asked::Nothing;
+        self.recording.end()
     }
 
     /// In a recording: someone other than this core wrote to RAM, and the eight bytes at `pa` are now these.
@@ -245,9 +257,11 @@ impl Tlb {
         }
     }
 
-    /// The same, and `MAIR`, which `AT` alone reads.
+    /// The same, and `MAIR`.
     pub(super) fn tell_all(&mut self, s: &SysRegs, el: u32, mark: bool) {
-        self.tell_registers(s);
+        if self.told.mair != s.mair {
+            self.tell_registers(s);
+        }
         self.tell(s, el, mark);
     }
 

@@ -7,6 +7,7 @@ mod random;
 mod rng;
 mod scene;
 mod side;
+mod speed;
 mod voices;
 mod wander;
 mod world;
@@ -20,12 +21,15 @@ use std::sync::atomic::Ordering;
 type Proved = proved::aarch64::Cpu;
 type Mistaken = mistaken::aarch64::Cpu;
 
-/// A directed guest to its end; how many steps it took.
-fn play<B: Side>(guest: &Guest) -> Result<u64, String> {
+/// A directed guest to its end; how many steps it took. With a folder what its first core does is recorded there.
+fn play<B: Side>(guest: &Guest, record: Option<&str>) -> Result<u64, String> {
     let cores = guest.starts.len();
     let mut pair: Pair<B> = Pair::new(guest.bus.clone(), cores);
     for (n, start) in guest.starts.iter().enumerate() {
         pair.start(n, *start);
+    }
+    if let Some(path) = record {
+        pair.b[0].record(path);
     }
     while pair.a[0].pc() != guest.end {
         if pair.steps > 2_000_000 {
@@ -40,6 +44,7 @@ fn play<B: Side>(guest: &Guest) -> Result<u64, String> {
         pair.step(turn)?;
     }
     pair.finish()?;
+    pair.b[0].end_recording();
     for (at, value) in &guest.known {
         let found = pair.bus_b.peek(*at);
         if found != *value {
@@ -53,7 +58,7 @@ fn play<B: Side>(guest: &Guest) -> Result<u64, String> {
 fn directed<B: Side>() -> usize {
     let mut wrong = 0;
     for guest in directed::all().iter().chain(&voices::all()) {
-        match play::<B>(guest) {
+        match play::<B>(guest, None) {
             Ok(steps) => println!(
                 "{:30} {steps} steps, {} results as known",
                 guest.name,
@@ -63,6 +68,22 @@ fn directed<B: Side>() -> usize {
                 wrong += 1;
                 println!("{:30} {e}", guest.name);
             }
+        }
+    }
+    wrong
+}
+
+/// Records a guest, by a piece of its name, as FOLDER/guest.trace; how many could not be.
+fn record(name: &str, path: &str) -> usize {
+    let all = directed::all().into_iter().chain(voices::all());
+    let mut wrong = 1;
+    for guest in all.filter(|guest| guest.name.contains(name)).take(1) {
+        match play::<Proved>(&guest, Some(path)) {
+            Ok(steps) => {
+                wrong = 0;
+                println!("{path}: {}, {steps} steps", guest.name);
+            }
+            Err(e) => println!("{}: {e}", guest.name),
         }
     }
     wrong
@@ -82,7 +103,7 @@ fn mistakes(seeds: u64) -> usize {
         let guests: Vec<Guest> = directed::all().into_iter().chain(voices::all()).collect();
         let caught: Vec<&str> = guests
             .iter()
-            .filter(|g| play::<Mistaken>(g).is_err())
+            .filter(|g| play::<Mistaken>(g, None).is_err())
             .map(|g| g.name)
             .collect();
         let seed = (1..seeds).find(|seed| wander::seed::<Mistaken>(*seed, 4000).differs.is_some());
@@ -104,9 +125,11 @@ fn main() {
     let wrong = match words.first().map(String::as_str) {
         Some("directed") => directed::<Proved>(),
         Some("random") => wander::seeds::<Proved>(number(1, 1), number(2, 200), number(3, 4000)),
+        Some("record") if words.len() == 3 => record(&words[1], &words[2]),
+        Some("speed") => speed::table(number(1, 4_000_000)),
         Some("mistakes") => mistakes(number(1, 400)),
         _ => {
-            eprintln!("usage: guests directed | random FROM TO STEPS | mistakes SEEDS");
+            eprintln!("usage: guests directed | random FROM TO STEPS | mistakes SEEDS | record NAME TRACE | speed STEPS");
             std::process::exit(2);
         }
     };

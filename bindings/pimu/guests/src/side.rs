@@ -101,6 +101,7 @@ pub trait Side: Cache + Clone {
     fn set_event(&mut self);
     fn set_irq(&mut self, on: bool);
     fn record(&mut self, path: &str);
+    fn end_recording(&mut self);
     fn poked(&mut self, pa: u64, value: u64);
 }
 
@@ -261,11 +262,17 @@ macro_rules! side {
     (record pimu) => {
         fn record(&mut self, _: &str) {}
 
+        fn end_recording(&mut self) {}
+
         fn poked(&mut self, _: u64, _: u64) {}
     };
     (record $ours:ident) => {
         fn record(&mut self, path: &str) {
             self.tlb.record(path).expect("the trace can be written");
+        }
+
+        fn end_recording(&mut self) {
+            self.tlb.end_recording().expect("the trace can be written");
         }
 
         fn poked(&mut self, pa: u64, value: u64) {
