@@ -228,6 +228,64 @@ static inline uint8_t a72_status(uint64_t number) { return (uint8_t)(number - A7
 #define A72_VMPIDR_EL2 A72_KEY(3, 4, 0, 0, 5)
 #define A72_PAR_EL1 A72_KEY(3, 0, 7, 4, 0)
 
+/* System operations by name: op1, CRn, CRm and op2, as four arguments of a72_system, before the register's number:
+ * `a72_system(core, A72_TLBI_VAE1, 1, &ans, base, ram, len)` is TLBI VAE1, X1. Those that take no register are given 31. */
+#define A72_TLBI_VMALLE1IS 0, 8, 3, 0
+#define A72_TLBI_VMALLE1 0, 8, 7, 0
+#define A72_TLBI_ALLE2IS 4, 8, 3, 0
+#define A72_TLBI_ALLE1IS 4, 8, 3, 4
+#define A72_TLBI_VMALLS12E1IS 4, 8, 3, 6
+#define A72_TLBI_ALLE2 4, 8, 7, 0
+#define A72_TLBI_ALLE1 4, 8, 7, 4
+#define A72_TLBI_VMALLS12E1 4, 8, 7, 6
+#define A72_TLBI_ALLE3IS 6, 8, 3, 0
+#define A72_TLBI_ALLE3 6, 8, 7, 0
+#define A72_IC_IALLUIS 0, 7, 1, 0
+#define A72_IC_IALLU 0, 7, 5, 0
+#define A72_TLBI_VAE1IS 0, 8, 3, 1
+#define A72_TLBI_ASIDE1IS 0, 8, 3, 2
+#define A72_TLBI_VAAE1IS 0, 8, 3, 3
+#define A72_TLBI_VALE1IS 0, 8, 3, 5
+#define A72_TLBI_VAALE1IS 0, 8, 3, 7
+#define A72_TLBI_VAE1 0, 8, 7, 1
+#define A72_TLBI_ASIDE1 0, 8, 7, 2
+#define A72_TLBI_VAAE1 0, 8, 7, 3
+#define A72_TLBI_VALE1 0, 8, 7, 5
+#define A72_TLBI_VAALE1 0, 8, 7, 7
+#define A72_TLBI_IPAS2E1IS 4, 8, 0, 1
+#define A72_TLBI_IPAS2LE1IS 4, 8, 0, 5
+#define A72_TLBI_VAE2IS 4, 8, 3, 1
+#define A72_TLBI_VALE2IS 4, 8, 3, 5
+#define A72_TLBI_IPAS2E1 4, 8, 4, 1
+#define A72_TLBI_IPAS2LE1 4, 8, 4, 5
+#define A72_TLBI_VAE2 4, 8, 7, 1
+#define A72_TLBI_VALE2 4, 8, 7, 5
+#define A72_TLBI_VAE3IS 6, 8, 3, 1
+#define A72_TLBI_VALE3IS 6, 8, 3, 5
+#define A72_TLBI_VAE3 6, 8, 7, 1
+#define A72_TLBI_VALE3 6, 8, 7, 5
+#define A72_AT_S1E1R 0, 7, 8, 0
+#define A72_AT_S1E1W 0, 7, 8, 1
+#define A72_AT_S1E0R 0, 7, 8, 2
+#define A72_AT_S1E0W 0, 7, 8, 3
+#define A72_AT_S1E2R 4, 7, 8, 0
+#define A72_AT_S1E2W 4, 7, 8, 1
+#define A72_AT_S12E1R 4, 7, 8, 4
+#define A72_AT_S12E1W 4, 7, 8, 5
+#define A72_AT_S12E0R 4, 7, 8, 6
+#define A72_AT_S12E0W 4, 7, 8, 7
+#define A72_AT_S1E3R 6, 7, 8, 0
+#define A72_AT_S1E3W 6, 7, 8, 1
+#define A72_DC_ZVA 3, 7, 4, 1
+#define A72_DC_IVAC 0, 7, 6, 1
+#define A72_DC_ISW 0, 7, 6, 2
+#define A72_DC_CSW 0, 7, 10, 2
+#define A72_DC_CISW 0, 7, 14, 2
+#define A72_DC_CVAC 3, 7, 10, 1
+#define A72_DC_CVAU 3, 7, 11, 1
+#define A72_DC_CIVAC 3, 7, 14, 1
+#define A72_IC_IVAU 3, 7, 5, 1
+
 /* ---- The calls ---- */
 
 /* The physical address of `va` for an access of this kind at the present level, in *ans. A fault is at `va`. With

@@ -11,6 +11,8 @@ cargo build --offline --release -j1 --features harness/rattle --target-dir targe
 bench=target-rattle/release/bench
 ./ir.sh $bench "$work/counts" >/dev/null
 $bench time 900 --counts "$work/counts" >"$work/table"
+SIDE=plain ./ir.sh $bench "$work/plain-counts" >/dev/null
+$bench time 900 --plain --counts "$work/plain-counts" >"$work/plain-table"
 ./stack.sh "$A72_LIB/lib$A72_NAME.a" >"$work/frames"
 
 # FIELD of the line of `frames` where it is the greatest: bytes, then the function.
@@ -77,6 +79,8 @@ TEXT
     sed '/^$/,$d' "$work/table"
     echo
     echo "$(tail -n 1 "$work/table")."
+    echo
+    ./plain-section.sh "$work/plain-table"
     echo
     echo "## Stack"
     echo

@@ -1,7 +1,7 @@
 #!/bin/sh
 # Instructions a call of each case of `bench`, on the Rust and on the library: callgrind counts two runs of different
 # length (a census walks 65,536 pages a call: few), and their difference is divided by the calls between them. Writes lines `NUMBER RUST LIBRARY` to the file
-# given, which `bench time --counts FILE` takes.
+# given, which `bench time --counts FILE` takes. SIDE=plain counts the core as plain Rust in the library's place.
 #   ir.sh BENCH FILE [NUMBER..]
 set -eu
 bench=$1
@@ -34,5 +34,5 @@ each() {
 : >"$file"
 for number; do
     name=$(sed -n "s/^$number //p" "$work/cases")
-    echo "$number $(each "$number" rust "$name") $(each "$number" ours "$name")" | tee -a "$file"
+    echo "$number $(each "$number" rust "$name") $(each "$number" "${SIDE:-ours}" "$name")" | tee -a "$file"
 done

@@ -1,5 +1,5 @@
 #!/bin/sh
-# include/a72.h from C: bindings/c/example.c writes what bindings/c/example.out has, and tests/readers.c reads what it set. Both compile without a
+# include/a72.h from C: bindings/c/example.c and embed.c write what their .out has, and tests/readers.c reads what it set. Both compile without a
 # warning, as C++ too. Wants a C compiler (CC, or cc, gcc, clang, or the kit's where it finds the C library's headers) and target/staticlib/liba72abi.a
 # (tools/build a72abi; A72_LIB names another folder). What lacks one of them is left out, and said to be.
 set -eu
@@ -26,15 +26,27 @@ cc=$(compiler c "${CC-}" cc gcc clang)
 cxx=$(compiler c++ "${CXX-}" c++ g++ clang++)
 
 # shellcheck disable=SC2086
-for name in bindings/c/example tests/readers; do
+for name in bindings/c/example bindings/c/embed tests/readers; do
     "$cc" -std=c99 $strict -c "$name.c" -o "$work/$(basename "$name").o"
     [ -z "$cxx" ] || "$cxx" -x c++ -std=c++11 $strict -fsyntax-only "$name.c"
 done
 [ -f "$library" ] || { echo "compiled; the run is left out: $library is missing, and tools/build a72abi makes it"; exit 0; }
-for name in example readers; do
+for name in example embed readers; do
     "$cc" "$work/$name.o" "$library" -o "$work/$name"
 done
-"$work/example" >"$work/out"
-diff bindings/c/example.out "$work/out"
+for name in example embed; do
+    "$work/$name" >"$work/out"
+    diff "bindings/c/$name.out" "$work/out"
+done
+# Installed, it is found by pkg-config, where that is here.
+tools/install "$work/prefix" >/dev/null
+if command -v pkg-config >/dev/null; then
+    # shellcheck disable=SC2046
+    "$cc" bindings/c/embed.c $(PKG_CONFIG_PATH="$work/prefix/lib/pkgconfig" pkg-config --cflags --libs a72) -o "$work/installed"
+else
+    "$cc" -I"$work/prefix/include" bindings/c/embed.c "$work/prefix/lib/liba72abi.a" -o "$work/installed"
+fi
+"$work/installed" >"$work/out"
+diff bindings/c/embed.out "$work/out"
 said=$("$work/readers") || { echo "$said"; exit 1; }
-echo "the example compiles${cxx:+, as C++ too,} and writes what is expected; $said"
+echo "both examples compile${cxx:+, as C++ too,} and write what is expected, installed too; $said"

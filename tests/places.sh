@@ -1,6 +1,6 @@
 #!/bin/sh
 # The C interface is one wherever it is written: the places of a saved core's words, the memory of a core, the numbers that the functions give, the counts of
-# a census, the keys of the registers, and each function's parameters. Compares the library (crates/), include/a72.h, bindings/rust/src and bindings/rust-archive/src, line by line. Wants nothing.
+# a census, the keys of the registers, the system operations, and each function's parameters. Compares the library (crates/), include/a72.h, bindings/rust/src and bindings/rust-archive/src, line by line. Wants nothing.
 # Its last line is 'N lines are one in all tables'; where two differ it names both and the place, and ends with 1.
 set -eu
 cd "$(dirname "$0")/.."
@@ -81,6 +81,12 @@ awk '/^    [A-Z0-9_]+ [0-9]+ [0-9]+ [0-9]+ [0-9]+, place::/ { sub(",", "", $5); 
     table bindings/rust/src/registers.rs
 sed -n 's/^#define A72_\([A-Z0-9_]*\) A72_KEY(\(.*\))$/\1 \2/p' $header | tr -d , | table $header
 one key bindings/rust/src/registers.rs $header
+
+# System operations: NAME OP1 CRN CRM OP2.
+sed -n 's/^    [A-Za-z0-9_]*, "\([A-Z]*\) \([A-Z0-9]*\)": \([0-9 ]*\);$/\1_\2 \3/p' bindings/rust/src/system_operation.rs |
+    table bindings/rust/src/system_operation.rs
+sed -n 's/^#define A72_\([A-Z]*_[A-Z0-9]*\) \([0-9]*, [0-9]*, [0-9]*, [0-9]*\)$/\1 \2/p' $header | tr -d , | table $header
+one operation bindings/rust/src/system_operation.rs $header
 
 # Functions, sorted: NAME, then each parameter as a C type without its name; `-` where nothing is given back.
 awk -f tools/functions.awk crates/core_static/src/*.rt | sort | table crates/core_static/src/all

@@ -7,7 +7,7 @@ use crate::place::State;
 use crate::ram::Ram;
 use crate::registers::Key;
 use crate::stage1::call_words::reply;
-use crate::stage1::quick::{fetch, load, settings, store, sys, translation};
+use crate::stage1::quick::{fetch, hint, load, settings, store, sys, translation};
 use crate::stage1::{cpu, saved};
 use crate::system_operation::SystemOperation;
 use core::fmt::{self, Debug, Formatter};
@@ -73,20 +73,44 @@ impl Core {
 
     /// The physical address of `va` for an access of this kind at the present level. With stage 1 off: `va` without its tag
     /// where TBI drops that, and from 2^44 on a fault of status 0x00.
-    #[inline]
+    #[inline(always)]
     pub fn translate(&mut self, ram: &Ram, va: u64, access: Access) -> Result<u64, Stop> {
+        match hint::served(&self.core, va, access as u64, ram.base, ram.bytes.len() as u64) {
+            Some(pa) => Ok(pa),
+            None => self.translate_past_hint(ram, va, access),
+        }
+    }
+
+    // What `quick::translation::translate` does where no hint serves; out of line, so that a hint pays nothing for it.
+    #[inline(never)]
+    fn translate_past_hint(&mut self, ram: &Ram, va: u64, access: Access) -> Result<u64, Stop> {
         let mut pa = 0;
-        match translation::translate(&mut self.core, va, access as u64, &mut pa, ram.base, ram.bytes) {
+        match translation::kind_asked(&mut self.core, va, access as u64, &mut pa, ram.base, ram.bytes) {
             DONE => Ok(pa),
             n => Err(Stop::of(n, access, va)),
         }
     }
 
     /// Where a data read of `va` would go; `None` where it would fault.
-    #[inline]
+    #[inline(always)]
     pub fn data_pa(&mut self, ram: &Ram, va: u64) -> Result<Option<u64>, Stop> {
+        match hint::served(
+            &self.core,
+            va,
+            Access::Read as u64,
+            ram.base,
+            ram.bytes.len() as u64,
+        ) {
+            Some(pa) => Ok(Some(pa)),
+            None => self.data_pa_past_hint(ram, va),
+        }
+    }
+
+    // The same of `quick::translation::data_pa`.
+    #[inline(never)]
+    fn data_pa_past_hint(&mut self, ram: &Ram, va: u64) -> Result<Option<u64>, Stop> {
         let mut pa = 0;
-        match translation::data_pa(&mut self.core, va, &mut pa, ram.base, ram.bytes) {
+        match translation::data_rest(&mut self.core, va, &mut pa, ram.base, ram.bytes) {
             DONE => Ok(Some(pa)),
             FAULT.. => Ok(None),
             n => Err(Stop::of(n, Access::Read, va)),
@@ -94,7 +118,7 @@ impl Core {
     }
 
     /// Where an instruction fetch from `va` would go; `None` where it would fault.
-    #[inline]
+    #[inline(always)]
     pub fn fetch_pa(&mut self, ram: &Ram, va: u64) -> Result<Option<u64>, Stop> {
         let mut pa = 0;
         match fetch::fetch_pa(&mut self.core, va, &mut pa, ram.base, ram.bytes) {
@@ -105,7 +129,7 @@ impl Core {
     }
 
     /// Load from `va`, zero-extended; over two pages where it crosses the end of one.
-    #[inline]
+    #[inline(always)]
     pub fn load(&mut self, ram: &Ram, va: u64, width: Width) -> Result<u64, Stop> {
         self.load_bytes(ram, va, width as u64)
     }
@@ -121,7 +145,7 @@ impl Core {
     }
 
     /// Store the low bytes of a value at `va`. Both pages are translated before either is written.
-    #[inline]
+    #[inline(always)]
     pub fn store(&mut self, ram: &mut Ram, va: u64, width: Width, value: u64) -> Result<(), Stop> {
         self.store_bytes(ram, va, width as u64, value)
     }
@@ -137,7 +161,7 @@ impl Core {
     }
 
     /// The instruction at `va`.
-    #[inline]
+    #[inline(always)]
     pub fn fetch(&mut self, ram: &Ram, va: u64) -> Result<u32, Stop> {
         let mut instruction = 0;
         match fetch::fetch(&mut self.core, va, &mut instruction, ram.base, ram.bytes) {
@@ -190,19 +214,19 @@ impl Core {
     }
 
     /// Set the present exception level.
-    #[inline]
+    #[inline(always)]
     pub fn set_level(&mut self, level: impl Into<Level>) -> Result<(), Stop> {
         done(settings::level(&mut self.core, level.into().into()))
     }
 
     /// Mark the accesses that follow as unprivileged (LDTR and STTR), or not.
-    #[inline]
+    #[inline(always)]
     pub fn set_unprivileged(&mut self, on: bool) -> Result<(), Stop> {
         done(settings::mark(&mut self.core, on.into()))
     }
 
     /// Set a general register, X0 to X30; 31 is the zero register and takes nothing.
-    #[inline]
+    #[inline(always)]
     pub fn set_general(&mut self, number: u64, value: u64) -> Result<(), Stop> {
         done(settings::general(&mut self.core, number, value))
     }

@@ -1,9 +1,14 @@
 //! Stage 1 address translation of the Cortex-A72: the VMSAv8-64 table walk, its cache (TLB), TLBI, AT, loads, stores
-//! and fetches over one or two pages, exception entry, as pimu does them, and a census of how pages are mapped. The
-//! work is done by a static library written in Rattle, in which every function is proved to meet its contract; this
-//! crate gives it types.
+//! and fetches over one or two pages, exception entry, as pimu does them, and a census of how pages are mapped.
 //!
-//! A [`Core`] owns its state, in memory of its own. It owns no RAM: each call is lent a window of RAM, a base address and bytes ([`Ram`]).
+//! The module [`stage1`] is the text of crates in Rattle, Rust with contracts, in which every function is proved to meet
+//! its contract; the contracts are taken away. The rest of this crate gives it types and names. What rustc makes of it is
+//! run beside pimu's own Rust and beside the library that was proved and compiled as one, operation by operation: that is
+//! tested, and not proved. No unsafe code, no dependency, no allocation but for a core's words in boxes (feature `std`).
+//!
+//! [`embedding`] shows an emulator's use: devices, two cores, faults that the guest takes.
+//!
+//! A [`Core`] is its state. It owns no RAM: each call is lent a window of RAM, a base address and bytes ([`Ram`]).
 //! An answer is a [`Result`] whose error is a [`Stop`]: the call was refused, or the operation is undefined or
 //! unimplemented, and nothing was changed; or it ended in a fault.
 //!
@@ -70,6 +75,8 @@ mod boxed;
 mod census;
 mod core;
 pub mod count;
+#[doc = include_str!("../EMBEDDING.md")]
+pub mod embedding {}
 mod memory;
 pub mod number;
 mod operation;

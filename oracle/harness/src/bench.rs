@@ -3,9 +3,13 @@
 //! On the Rust's side the operation itself is called, behind one call that is not inlined, with RAM at its quickest;
 //! the checks are not made there. On the library's side its exported function is called. Translations,
 //! loads, stores and censuses have a third side: the Rust behind the library's signatures, with the checks.
+//!
+//! The core as plain Rust may stand in the library's place: its methods, with their checks, behind one call each.
 mod cases;
 mod checked;
+#[cfg(feature = "rattle")]
 mod ours;
+mod plain;
 mod rust;
 mod scene;
 mod time;
@@ -14,6 +18,7 @@ pub use cases::cases;
 pub use time::{time, Times};
 
 use crate::census::Counts;
+use crate::number::FAULT;
 use crate::ffi::{boxed, saved, state_of, Held};
 use crate::rust::RustCore;
 use crate::{Core, Ram};
@@ -52,6 +57,8 @@ pub struct Case {
     pub name: &'static str,
     /// The greatest ratio of the library's time to the Rust's that is asked for.
     pub bar: Option<f64>,
+    /// The same of the plain core's.
+    pub plain: Option<f64>,
     work: Work,
     args: [u64; 2],
     scene: Scene,
@@ -85,7 +92,10 @@ pub enum Side {
     Rust,
     /// The Rust with the checks, behind the library's signatures.
     Checked,
+    /// The library, with the feature `rattle`.
     Ours,
+    /// The core as plain Rust.
+    Plain,
 }
 
 /// A case with both cores set up for it.
@@ -95,6 +105,7 @@ pub struct Pair {
     rust: Box<RustCore>,
     rust_ram: Ram,
     core: Held,
+    plain: Box<a72::Core>,
     ram: Ram,
 }
 
@@ -102,11 +113,14 @@ impl Pair {
     pub fn new(case: &Case) -> Pair {
         let (rust, ram) = case.scene.build();
         let mut core = Held::new();
-        core.restore(&boxed(&rust.state()));
+        let words = boxed(&rust.state());
+        core.restore(&words);
+        let plain = Box::new(a72::Core::from_words(words));
         Pair {
             work: case.work,
             args: case.args,
             core,
+            plain,
             rust: Box::new(rust),
             rust_ram: ram.clone(),
             ram,
@@ -121,7 +135,11 @@ impl Pair {
             Side::Checked => self
                 .rust
                 .counting(|c| checked::run(work, args, &mut c.cpu, ram, n)),
-            Side::Ours => ours::run(self.work, self.args, &mut self.core, &mut self.ram, n),
+            #[cfg(feature = "rattle")]
+            Side::Ours => ours::run(work, args, &mut self.core, &mut self.ram, n),
+            #[cfg(not(feature = "rattle"))]
+            Side::Ours => unreachable!("the library wants the feature `rattle`"),
+            Side::Plain => plain::run(work, args, &mut self.plain, &mut self.ram, n),
         }
     }
 
@@ -130,9 +148,13 @@ impl Pair {
         checked::has(self.work)
     }
 
-    /// Whether both sides hold the same: whole state and RAM.
-    pub fn agree(&self) -> bool {
-        state_of(&saved(&self.core)[..]) == self.rust.state() && self.ram == self.rust_ram
+    /// Whether the Rust and another side hold the same: whole state and RAM.
+    pub fn agree(&self, side: Side) -> bool {
+        let words = match side {
+            Side::Plain => self.plain.words(),
+            _ => saved(&self.core),
+        };
+        state_of(&words[..]) == self.rust.state() && self.ram == self.rust_ram
     }
 }
 
@@ -159,4 +181,14 @@ const DONE: u64 = 1;
 #[inline(always)]
 fn fault(status: u64, addr: u64) -> u64 {
     addr.wrapping_add(status << 50)
+}
+
+/// The answer's part of the sum, by the library's number: the value, or a fault's status and address.
+#[inline(always)]
+fn summed(n: u64, v: u64, addr: u64) -> u64 {
+    if n == 0 {
+        v
+    } else {
+        fault(n - FAULT, addr)
+    }
 }

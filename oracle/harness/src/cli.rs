@@ -5,6 +5,7 @@ use crate::ffi::CCore;
 use crate::generate::Style;
 use crate::model::{DocCore, Mistake, MISTAKES};
 use crate::op::Line;
+use crate::plain::PlainCore;
 use crate::rust::RustCore;
 use crate::Core;
 use std::ops::Range;
@@ -111,13 +112,15 @@ impl Args {
         }
     }
 
-    /// The core behind the C boundary, if it is asked for: by `a72_step`, or by the function of each operation.
+    /// The core behind the C boundary, if it is asked for: by `a72_step`, or by the function of each operation; or the one of
+    /// plain Rust.
     fn foreign_core(&self) -> Option<Box<dyn Core>> {
-        match (self.flag("--c"), self.flag("--each")) {
-            (false, false) => None,
-            (true, false) => Some(Box::new(CCore::new())),
-            (false, true) => Some(self.each()),
-            (true, true) => self.fail("--c and --each exclude each other"),
+        match ["--c", "--each", "--plain"].map(|name| self.flag(name)) {
+            [false, false, false] => None,
+            [true, false, false] => Some(Box::new(CCore::new())),
+            [false, true, false] => Some(self.each()),
+            [false, false, true] => Some(Box::new(PlainCore::default())),
+            _ => self.fail("--c, --each and --plain exclude each other"),
         }
     }
 
@@ -131,7 +134,7 @@ impl Args {
         self.fail("--each wants the feature `rattle`")
     }
 
-    /// The core beside the Rust: the model, the model with a mistake, or the one behind the C boundary.
+    /// The core beside the Rust: the model, the model with a mistake, the one behind the C boundary or that of plain Rust.
     pub fn other_core(&self) -> Box<dyn Core> {
         let model = || Box::new(DocCore::with_mistake(self.mistake()));
         self.foreign_core().unwrap_or_else(|| model())
@@ -140,7 +143,7 @@ impl Args {
     /// One core alone that does what ought to be done: the Rust in its domain and the model outside it, the model, or the one
     /// behind the C boundary.
     pub fn right_core(&self) -> Box<dyn Core> {
-        if self.flag("--model") || self.flag("--c") || self.flag("--each") {
+        if ["--model", "--c", "--each", "--plain"].iter().any(|name| self.flag(name)) {
             self.one_core()
         } else {
             Box::new(Reference::default())
@@ -153,7 +156,7 @@ impl Args {
             (false, None) => Box::new(RustCore::new()),
             (true, None) => Box::new(DocCore::new()),
             (false, Some(core)) => core,
-            (true, Some(_)) => self.fail("--model excludes --c and --each"),
+            (true, Some(_)) => self.fail("--model excludes --c, --each and --plain"),
         }
     }
 

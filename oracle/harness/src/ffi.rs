@@ -90,7 +90,7 @@
 pub mod each;
 #[path = "../../../bindings/rust-archive/src/held.rs"]
 mod held;
-mod poke;
+pub(crate) mod poke;
 mod state;
 mod words;
 

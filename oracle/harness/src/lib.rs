@@ -1,5 +1,4 @@
 //! An oracle for stage 1 of the A72: the scope's operations on pimu's own Rust, and traces of them.
-#[cfg(feature = "rattle")]
 pub mod bench;
 pub mod census;
 pub mod cli;
@@ -14,6 +13,7 @@ pub mod grid;
 pub mod instructions;
 pub mod model;
 pub mod op;
+pub mod plain;
 pub mod ram;
 pub mod recorded;
 pub mod refusal;

@@ -3,14 +3,18 @@
 
 // What contracts alone name: an argument, a loop, an import.
 #![allow(unused_variables, unused_labels, unused_imports)]
-// Forms that the proofs take as they stand.
+// Forms that the proofs take as they stand; ranges of bits, which rustdoc takes for links.
 #![allow(
     clippy::assign_op_pattern,
     clippy::collapsible_if,
     clippy::if_same_then_else,
     clippy::manual_map
 )]
-#![allow(clippy::new_without_default, clippy::too_many_arguments)]
+#![allow(
+    clippy::new_without_default,
+    clippy::too_many_arguments,
+    rustdoc::broken_intra_doc_links
+)]
 
 pub mod call_words;
 pub mod census;

@@ -19,6 +19,17 @@ const LENT_HINT: f64 = 1.3;
 const LENT_ENTRY: f64 = 1.2;
 const LENT_WALK: f64 = 0.95;
 
+/// The plain core's: translations, accesses and TLBI as fast as the Rust's; settings, abort entry and DC ZVA nearly so.
+fn plain_bar(work: Work) -> Option<f64> {
+    match work {
+        Work::System([0, 7, ..]) | Work::Census(_) => None,
+        Work::System([0, 8, ..]) => Some(1.0),
+        Work::System(_) | Work::Register(_) | Work::Level | Work::Mark => Some(1.2),
+        Work::General(_) | Work::DataAbort | Work::Svc => Some(1.2),
+        _ => Some(1.0),
+    }
+}
+
 const READ: Work = Work::Translate(1);
 const WRITE: Work = Work::Translate(2);
 const FETCH: Work = Work::Translate(4);
@@ -32,6 +43,7 @@ fn case(name: &'static str, bar: impl Into<Option<f64>>, work: Work, args: [u64;
     Case {
         name,
         bar: bar.into(),
+        plain: plain_bar(work),
         work,
         args,
         scene,

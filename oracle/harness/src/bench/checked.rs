@@ -1,7 +1,7 @@
 //! The Rust behind the library's own signatures: numbers in and out, lent words of RAM, and the checks 1 to
 //! 3 and 7 before pimu's function. So both sides do the same work.
 use super::rust::Quick;
-use super::{ours::summed, repeat, told, Work, DONE, STORED};
+use super::{repeat, summed, told, Work, DONE, STORED};
 use crate::census::{Counts, COUNTS};
 use crate::number::{FAULT, NAMES_NOTHING, UNDEFINED, UNIMPLEMENTED};
 use crate::{refusal, rust, Ram};

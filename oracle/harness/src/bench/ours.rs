@@ -1,21 +1,10 @@
 //! The library's side: its function for each operation, on a core.
-use super::{fault, repeat, told, Work, DONE, STORED};
+use super::{fault, repeat, summed, told, Work, DONE, STORED};
 use crate::census::COUNTS;
 use crate::ffi::each::Lent;
 use crate::ffi::{count, Held};
-use crate::number::FAULT;
 use crate::Ram;
 use std::hint::black_box;
-
-/// The answer's part of the sum: the value, or a fault's status and address.
-#[inline(always)]
-pub(super) fn summed(n: u64, v: u64, addr: u64) -> u64 {
-    if n == 0 {
-        v
-    } else {
-        fault(n - FAULT, addr)
-    }
-}
 
 pub fn run(work: Work, args: [u64; 2], core: &mut Held, ram: &mut Ram, n: usize) -> u64 {
     let base = black_box(ram.base);

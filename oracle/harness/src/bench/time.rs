@@ -4,6 +4,8 @@ use std::time::Instant;
 
 /// Nanoseconds a call, or a page of a census: the least of all runs.
 pub struct Times {
+    /// The side beside the Rust, and its time.
+    pub side: Side,
     pub rust: f64,
     pub ours: f64,
     /// The Rust with the checks, where the case has that side.
@@ -76,22 +78,22 @@ fn checked(pair: &mut Pair, runs: usize, n: usize) -> Option<f64> {
     timed.then(|| least.a_call(n))
 }
 
-/// Time one case by `runs` runs of each side in turn. The error says where answers, states or RAM differed.
-pub fn time(case: &Case, runs: usize) -> Result<Times, String> {
+/// Time one case by `runs` runs of the Rust and of another side in turn. The error says where answers, states or RAM differed.
+pub fn time(case: &Case, other: Side, runs: usize) -> Result<Times, String> {
     let mut pair = Pair::new(case);
     let differ = |what| Err(format!("{}: {what} differ", case.name));
     for n in 1..case.calls(64) {
-        if pair.run(Side::Rust, n) != pair.run(Side::Ours, n) {
+        if pair.run(Side::Rust, n) != pair.run(other, n) {
             return differ("answers");
         }
-        if !pair.agree() {
+        if !pair.agree(other) {
             return differ("states or RAM");
         }
     }
     let few = case.calls(64);
     let (some, _) = run(&mut pair, Side::Rust, few);
     let n = ((few as f64 * RUN / some) as usize).clamp(case.calls(16), 4000) & !1;
-    pair.run(Side::Ours, few);
+    pair.run(other, few);
     let runs = if case.parts() == 1 {
         runs
     } else {
@@ -100,16 +102,18 @@ pub fn time(case: &Case, runs: usize) -> Result<Times, String> {
     let parts = case.parts() as f64;
     let (mut rust, mut ours) = (Least::new(), Least::new());
     for _ in 0..runs {
-        if rust.add(&mut pair, Side::Rust, n) != ours.add(&mut pair, Side::Ours, n) {
+        if rust.add(&mut pair, Side::Rust, n) != ours.add(&mut pair, other, n) {
             return differ("answers");
         }
     }
-    if !pair.agree() {
+    if !pair.agree(other) {
         return differ("states or RAM");
     }
+    let timed = (other == Side::Ours).then(|| checked(&mut pair, runs, n)).flatten();
     Ok(Times {
+        side: other,
         rust: rust.a_call(n) / parts,
         ours: ours.a_call(n) / parts,
-        checked: checked(&mut pair, runs, n).map(|time| time / parts),
+        checked: timed.map(|time| time / parts),
     })
 }

@@ -3,13 +3,13 @@ use harness::bench::{cases, time, Case, Pair, Side, Times};
 use harness::cli::{finish, Args};
 use std::collections::BTreeMap;
 
-const USAGE: &str = "bench time [RUNS] [--only TEXT] [--counts FILE]
+const USAGE: &str = "bench time [RUNS] [--plain] [--only TEXT] [--counts FILE]
        bench list
-       bench one CASE rust|checked|ours N
+       bench one CASE rust|checked|ours|plain N
   time: a table of all cases (--only: of those whose name holds TEXT): nanoseconds a call, of a census a page, on the
   Rust and on the library, the least of RUNS runs (600), the ratio and its bar, then the Rust with the
   checks behind the library's signatures and the ratio to that; --counts: with the instructions a call that
-  `ir.sh` wrote. Status 1 where the two sides differ in an answer or a state. list: the cases' numbers and names.
+  `ir.sh` wrote; --plain: the core as plain Rust in the library's place, which wants no feature. Status 1 where the two sides differ in an answer or a state. list: the cases' numbers and names.
   one: N calls of one case on one side, to count instructions.";
 
 /// Instructions a call, by the case's number: the Rust's and the library's.
@@ -26,18 +26,18 @@ fn counts(args: &Args) -> Option<Counts> {
     Some(args.text(file).lines().filter_map(row).collect())
 }
 
-fn verdict(case: &Case, times: &Times) -> String {
-    match case.bar {
+fn verdict(bar: Option<f64>, times: &Times) -> String {
+    match bar {
         None => "".into(),
         Some(bar) if times.ratio() <= bar => format!("≤ {bar:.2} met"),
         Some(bar) => format!("≤ {bar:.2} **missed**"),
     }
 }
 
-fn row(number: usize, case: &Case, times: &Times, counts: &Option<Counts>) -> String {
+fn row(number: usize, case: &Case, bar: Option<f64>, times: &Times, counts: &Option<Counts>) -> String {
     let (name, ratio) = (case.name, times.ratio());
     let (rust, ours) = (times.rust, times.ours);
-    let bar = verdict(case, times);
+    let bar = verdict(bar, times);
     let parts = case.parts() as f64;
     let counted = counts.as_ref().map(|counts| match counts.get(&number) {
         Some((x, y)) => format!(" {:.1} | {:.1} | {:.2} |", x / parts, y / parts, y / x),
@@ -47,16 +47,19 @@ fn row(number: usize, case: &Case, times: &Times, counts: &Option<Counts>) -> St
     let checked = times
         .checked
         .map(|checked| format!("{checked:.2} | {:.3}", ours / checked));
-    let checked = checked.unwrap_or("| ".into());
-    format!("| {number} | {name} | {rust:.2} | {ours:.2} | {ratio:.3} | {bar} | {checked} |{counted}")
+    let checked = match times.side {
+        Side::Ours => format!(" {} |", checked.unwrap_or("| ".into())),
+        _ => "".into(),
+    };
+    format!("| {number} | {name} | {rust:.2} | {ours:.2} | {ratio:.3} | {bar} |{checked}{counted}")
 }
 
 /// All cases are gone through this often, so that a busy moment of the machine spoils none of them.
 const PASSES: usize = 6;
 
 /// The least times over all passes, or why the two sides differ.
-fn least(cases: &[(usize, Case)], runs: usize) -> Vec<Result<Times, String>> {
-    let pass = || cases.iter().map(|(_, case)| time(case, runs.div_ceil(PASSES)));
+fn least(cases: &[(usize, Case)], side: Side, runs: usize) -> Vec<Result<Times, String>> {
+    let pass = || cases.iter().map(|(_, case)| time(case, side, runs.div_ceil(PASSES)));
     let mut best: Vec<_> = pass().collect();
     for _ in 1..PASSES {
         for (best, now) in best.iter_mut().zip(pass()) {
@@ -68,6 +71,15 @@ fn least(cases: &[(usize, Case)], runs: usize) -> Vec<Result<Times, String>> {
         }
     }
     best
+}
+
+/// The library's side, where it is linked.
+fn library(args: &Args) -> Side {
+    if cfg!(feature = "rattle") {
+        Side::Ours
+    } else {
+        args.fail("the library wants the feature `rattle`; --plain does not")
+    }
 }
 
 fn table(args: &Args) -> bool {
@@ -86,16 +98,27 @@ fn table(args: &Args) -> bool {
         Some(_) => (" Rust instr. | library instr. | ratio |", "---:|---:|---:|"),
         None => ("", ""),
     };
-    println!("| # | Case | Rust ns | library ns | ratio | bar | checked Rust ns | ratio |{more}");
-    println!("|---:|---|---:|---:|---:|---|---:|---:|{line}");
+    let side = if args.flag("--plain") { Side::Plain } else { library(args) };
+    match side {
+        Side::Ours => {
+            println!("| # | Case | Rust ns | library ns | ratio | bar | checked Rust ns | ratio |{more}");
+            println!("|---:|---|---:|---:|---:|---|---:|---:|{line}");
+        }
+        _ => {
+            println!("| # | Case | Rust ns | plain ns | ratio | bar |{}", more.replace("library", "plain"));
+            println!("|---:|---|---:|---:|---:|---|{line}");
+        }
+    }
+    let bar_of = |case: &Case| if side == Side::Ours { case.bar } else { case.plain };
     let (mut met, mut level, mut bars, mut equal) = (0, 0, 0, true);
-    for ((number, case), outcome) in cases.iter().zip(least(&cases, runs)) {
+    for ((number, case), outcome) in cases.iter().zip(least(&cases, side, runs)) {
         match outcome {
             Ok(times) => {
-                bars += case.bar.is_some() as usize;
-                met += case.bar.is_some_and(|bar| times.ratio() <= bar) as usize;
-                level += case.bar.is_some_and(|bar| times.level_ratio() <= bar) as usize;
-                println!("{}", row(*number, case, &times, &counts));
+                let bar = bar_of(case);
+                bars += bar.is_some() as usize;
+                met += bar.is_some_and(|bar| times.ratio() <= bar) as usize;
+                level += bar.is_some_and(|bar| times.level_ratio() <= bar) as usize;
+                println!("{}", row(*number, case, bar, &times, &counts));
             }
             Err(e) => {
                 println!("| {number} | {e} | | | | | | |");
@@ -103,10 +126,12 @@ fn table(args: &Args) -> bool {
             }
         }
     }
-    println!(
-        "\n{met} of {bars} bars met, {level} against the Rust with the checks; {}",
-        if equal { "all equal" } else { "DIFFERENT" }
-    );
+    let level = match side {
+        Side::Ours => format!(", {level} against the Rust with the checks"),
+        _ => "".into(),
+    };
+    let said = if equal { "all equal" } else { "DIFFERENT" };
+    println!("\n{met} of {bars} bars met{level}; {said}");
     equal
 }
 
@@ -116,8 +141,9 @@ fn one(args: &Args) -> bool {
     let side = match args.words()[2].as_str() {
         "rust" => Side::Rust,
         "checked" => Side::Checked,
-        "ours" => Side::Ours,
-        _ => args.fail("rust, checked or ours"),
+        "ours" => library(args),
+        "plain" => Side::Plain,
+        _ => args.fail("rust, checked, ours or plain"),
     };
     let cases = cases();
     let Some(case) = cases.get(number.wrapping_sub(1)) else {
@@ -144,7 +170,7 @@ fn run(args: Args) -> bool {
 
 /// All in a thread of 2 MiB of stack, which is as much as a thread of Rust has by default.
 fn main() {
-    let args = Args::new(USAGE, &[], &["--only", "--counts"]);
+    let args = Args::new(USAGE, &["--plain"], &["--only", "--counts"]);
     let thread = std::thread::Builder::new().stack_size(2 << 20);
     let thread = thread.spawn(|| run(args)).expect("a thread");
     finish(thread.join().expect("no panic"))

@@ -7,11 +7,11 @@ use harness::{Core, Line};
 use std::sync::atomic::{AtomicBool, AtomicU64, Ordering};
 use std::thread;
 
-const USAGE: &str = "compare [--c | --each | --mistake M] TRACE..
-       compare [--c | --each | --mistake M] --seeds FROM TO N [--strict | --wild] [--jobs J]
+const USAGE: &str = "compare [--c | --each | --plain | --mistake M] TRACE..
+       compare [--c | --each | --plain | --mistake M] --seeds FROM TO N [--strict | --wild] [--jobs J]
   The Rust beside the model (--c: the core behind the C boundary; --each: the same by its function for each
-  operation; --mistake: the model with that mistake), on traces or on those of the seeds FROM to TO - 1 with about N
-  operations each, J seeds at a time. An operation outside the Rust's domain is judged by
+  operation; --plain: the core as plain Rust; --mistake: the model with that mistake), on traces or on those of the
+  seeds FROM to TO - 1 with about N operations each, J seeds at a time. An operation outside the Rust's domain is judged by
   the model. Stops at the first operation after which answer, state or RAM differ. Shows how
   often each operation gave each answer. Status 1 where they differ, or no operation was compared.";
 
@@ -62,7 +62,7 @@ fn all_seeds(args: &Args) -> (Tally, bool) {
 fn main() {
     let args = Args::new(
         USAGE,
-        &["--c", "--each", "--seeds", "--strict", "--wild"],
+        &["--c", "--each", "--plain", "--seeds", "--strict", "--wild"],
         &["--mistake", "--jobs"],
     );
     let (tally, equal) = if args.flag("--seeds") {

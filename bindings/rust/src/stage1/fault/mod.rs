@@ -8,7 +8,7 @@ pub struct Fault {
 }
 
 /// A fault of stage 1.
-#[inline]
+#[inline(always)]
 pub fn first(fsc: u8) -> Fault {
     Fault { fsc }
 }

@@ -108,7 +108,7 @@ fn rest<P: Purpose, const TELLS: bool>(
 }
 
 #[inline(never)]
-fn data_rest(core: &mut Core, va: u64, ans: &mut u64, base: u64, ram: &[u8]) -> u64 {
+pub(crate) fn data_rest(core: &mut Core, va: u64, ans: &mut u64, base: u64, ram: &[u8]) -> u64 {
     rest::<Reading, false>(core, va, ans, base, ram)
 }
 
@@ -131,7 +131,7 @@ fn address<P: Purpose>(core: &mut Core, va: u64, ans: &mut u64, base: u64, ram: 
 
 /// By kind. Its arguments are those of the call in their order, so that it is jumped to.
 #[inline(never)]
-fn kind_asked(core: &mut Core, va: u64, kind: u64, ans: &mut u64, base: u64, ram: &[u8]) -> u64 {
+pub(crate) fn kind_asked(core: &mut Core, va: u64, kind: u64, ans: &mut u64, base: u64, ram: &[u8]) -> u64 {
     if kind < 2 {
         if kind == 1 {
             address::<Reading>(core, va, ans, base, ram)

@@ -6,7 +6,7 @@ const PA_BITS: u32 = 44;
 
 /// The physical address of an untagged address with stage 1 off. `None` is an address size fault of level 0
 /// (DDI 0487, AArch64.TranslateAddressS1Off).
-#[inline]
+#[inline(always)]
 pub fn flat_of(untagged: u64) -> Option<u64> {
     (untagged >> PA_BITS == 0).then_some(untagged)
 }

@@ -59,20 +59,20 @@ pub enum Step {
 }
 
 /// log2 of the granule's bytes.
-#[inline]
+#[inline(always)]
 fn granule(largegrain: bool) -> u64 {
     if largegrain { 16 } else { 12 }
 }
 
 /// The lowest address bit that indexes a table of the level.
-#[inline]
+#[inline(always)]
 pub(crate) fn lsb_of(largegrain: bool, level: u64) -> u64 {
     let granule = granule(largegrain);
     granule + (granule - 3) * (3 - level)
 }
 
 /// The address of the descriptor that va selects.
-#[inline]
+#[inline(always)]
 pub(crate) fn descriptor_address(p: Params, w: WalkState, va: u64) -> u64 {
     let skip = 64 - w.top;
     let index = (va << skip) >> (skip + w.lsb);
@@ -80,7 +80,7 @@ pub(crate) fn descriptor_address(p: Params, w: WalkState, va: u64) -> u64 {
 }
 
 /// A table descriptor: the next level, unless the table lies beyond the output size.
-#[inline]
+#[inline(always)]
 fn table_step(p: Params, w: WalkState, desc: Descriptor) -> Step {
     if descriptor::beyond(desc.0, p.outputsize) {
         return Step::Fault(FSC_ADDR_SIZE | w.level);
@@ -96,7 +96,7 @@ fn table_step(p: Params, w: WalkState, desc: Descriptor) -> Step {
 }
 
 /// The attributes of a leaf that decide permission.
-#[inline]
+#[inline(always)]
 fn permissions(p: Params, w: WalkState, desc: Descriptor) -> Permissions {
     let two = !p.singlepriv;
     let tables = Descriptor(w.tables);
@@ -110,7 +110,7 @@ fn permissions(p: Params, w: WalkState, desc: Descriptor) -> Permissions {
 
 /// A block or page descriptor: the leaf, unless blocks are not allowed there, its output lies beyond the output size,
 /// or its access flag is clear.
-#[inline]
+#[inline(always)]
 fn leaf_step(p: Params, w: WalkState, va: u64, desc: Descriptor) -> Step {
     let first_block_level = if p.largegrain { 2 } else { 1 };
     if w.level < first_block_level {
@@ -134,7 +134,7 @@ fn leaf_step(p: Params, w: WalkState, va: u64, desc: Descriptor) -> Step {
 }
 
 /// What the descriptor of the level leads to.
-#[inline]
+#[inline(always)]
 pub(crate) fn lookup(p: Params, w: WalkState, va: u64, base: u64, ram: &[u8]) -> Step {
     let at = descriptor_address(p, w, va);
     let desc = match ram::read(base, ram, Width::Double, at) {

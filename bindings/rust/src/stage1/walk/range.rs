@@ -27,7 +27,7 @@ pub type Begin = Result<WalkState, u8>;
 
 /// `TCR.{I}PS` to a number of bits: the smallest of 32 plus four times the code, 36 plus twice the code, and the A72's
 /// 44.
-#[inline]
+#[inline(always)]
 pub fn pa_bits(ps: u64) -> u64 {
     let code = ps % 8;
     (32 + 4 * code).min(36 + 2 * code).min(44)
@@ -35,7 +35,7 @@ pub fn pa_bits(ps: u64) -> u64 {
 
 impl Bank {
     /// The range that `va` lies in: one of two in the EL1&0 regime, the only one in the others.
-    #[inline]
+    #[inline(always)]
     pub fn range(self, regime: Regime, va: u64) -> Range {
         let tcr = self.tcr;
         let upper = regime == Regime::El1 && va >> 55 & 1 != 0;
@@ -62,7 +62,7 @@ impl Bank {
     }
 
     /// What holds at every level of a walk.
-    #[inline]
+    #[inline(always)]
     pub fn params(self, regime: Regime, g: Range) -> Params {
         Params {
             largegrain: g.largegrain,
@@ -75,12 +75,12 @@ impl Bank {
 
 impl Range {
     /// How many bits an input address has: TxSZ is held to 16..39.
-    #[inline]
+    #[inline(always)]
     fn input_size(self) -> u64 {
         64 - self.txsz.clamp(16, 39)
     }
 
-    #[inline]
+    #[inline(always)]
     fn has(self, va: u64) -> bool {
         let inputsize = self.input_size();
         let high = va >> inputsize;
@@ -92,7 +92,7 @@ impl Range {
     }
 
     /// The level of the first table: each granule has a quotient of its own, by a constant, which costs no division.
-    #[inline]
+    #[inline(always)]
     fn start(self, inputsize: u64) -> u64 {
         if self.largegrain {
             4 - (inputsize - 16).div_ceil(13)
@@ -102,7 +102,7 @@ impl Range {
     }
 
     /// The first table, unless the address is out of range, walks are disabled or the table lies beyond the output size.
-    #[inline]
+    #[inline(always)]
     pub(crate) fn begin(self, outputsize: u64, va: u64) -> Begin {
         if !self.has(va) || self.disabled {
             return Err(FSC_TRANSLATION);

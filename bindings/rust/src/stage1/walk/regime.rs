@@ -16,7 +16,7 @@ pub struct Bank {
 
 impl Bank {
     /// The registers of a regime.
-    #[inline]
+    #[inline(always)]
     pub fn new(c: &Control, regime: Regime) -> Self {
         let r = regime.index();
         Bank {
@@ -30,7 +30,7 @@ impl Bank {
     }
 
     /// Is stage 1 on for the regime? `HCR_EL2.{TGE,DC}` turn it off for Non-secure EL1&0 (DDI 0487, D5.2.9).
-    #[inline]
+    #[inline(always)]
     pub fn stage1_on(&self, regime: Regime) -> bool {
         let on = self.sctlr & SCTLR_M != 0;
         match regime {
@@ -40,7 +40,7 @@ impl Bank {
     }
 
     /// `va` as the walk sees it, with top byte ignore applied.
-    #[inline]
+    #[inline(always)]
     pub fn untag(&self, regime: Regime, va: u64) -> u64 {
         if regime == Regime::El1 {
             let tbi = if va >> 55 & 1 == 0 { 37 } else { 38 };

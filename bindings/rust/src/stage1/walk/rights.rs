@@ -18,7 +18,7 @@ pub struct Permissions {
 }
 
 /// Read 1, write 2, fetch 4.
-#[inline]
+#[inline(always)]
 pub fn perm_bits(r: bool, w: bool, x: bool) -> u8 {
     u8::from(r) | u8::from(w) << 1 | u8::from(x) << 2
 }
@@ -26,7 +26,7 @@ pub fn perm_bits(r: bool, w: bool, x: bool) -> u8 {
 impl Permissions {
     /// The rights that a leaf gives: EL0's in bits 0 to 2, the regime's own in bits 3 to 5. ARMv8.0: EL0 may execute
     /// what it cannot read, and EL1 not what EL0 may write.
-    #[inline]
+    #[inline(always)]
     pub fn byte(self, singlepriv: bool, wxn: bool) -> u8 {
         let priv_w = !self.ap2;
         if singlepriv {

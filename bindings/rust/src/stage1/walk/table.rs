@@ -41,7 +41,7 @@ fn visit_from(p: Params, first: WalkState, va: u64, base: u64, ram: &[u8], n: u8
 impl Bank {
     /// The table walk and permission check (DDI 0487, AArch64.TranslationTableWalk of ARMv8.0), over the RAM that
     /// starts at `base`; `va` is already untagged and errors are fault status codes.
-    #[inline]
+    #[inline(always)]
     pub fn walk(self, regime: Regime, va: u64, base: u64, ram: &[u8]) -> Walked {
         let g = self.range(regime, va);
         let p = self.params(regime, g);

@@ -13,7 +13,7 @@ pub enum Width {
 
 impl Width {
     /// The width of a size: 1, 2, 4 or 8.
-    #[inline]
+    #[inline(always)]
     pub fn of_size(size: u64) -> Option<Self> {
         match size {
             1 => Some(Width::Byte),
@@ -25,7 +25,7 @@ impl Width {
     }
 
     /// The size of a width.
-    #[inline]
+    #[inline(always)]
     pub fn bytes(self) -> u64 {
         self as u64
     }
@@ -33,13 +33,13 @@ impl Width {
 
 /// Whether all `n` bytes from the address `pa` lie in a window of `len` bytes from `base`. The sum of address and size
 /// does not wrap.
-#[inline]
+#[inline(always)]
 pub fn inside(base: u64, len: u64, n: u64, pa: u64) -> bool {
     base <= pa && n <= len && pa - base <= len - n
 }
 
 /// The value of a width's bytes from at, the lowest first (pimu's `load_le`).
-#[inline]
+#[inline(always)]
 fn load_le(ram: &[u8], width: Width, at: usize) -> u64 {
     let b = &ram[at..];
     match width {
@@ -51,7 +51,7 @@ fn load_le(ram: &[u8], width: Width, at: usize) -> u64 {
 }
 
 /// The value at the physical address `pa`, or nothing where a byte of it lies outside the window.
-#[inline]
+#[inline(always)]
 pub fn read(base: u64, ram: &[u8], width: Width, pa: u64) -> Option<u64> {
     if inside(base, ram.len() as u64, width.bytes(), pa) {
         Some(load_le(ram, width, (pa - base) as usize))
@@ -61,7 +61,7 @@ pub fn read(base: u64, ram: &[u8], width: Width, pa: u64) -> Option<u64> {
 }
 
 /// The bytes of a value over all of a part, the lowest first.
-#[inline]
+#[inline(always)]
 fn put_bytes(part: &mut [u8], value: u64) {
     let mut v = value;
     let mut i = 0;
@@ -74,7 +74,7 @@ fn put_bytes(part: &mut [u8], value: u64) {
 
 /// A store of the `n` low bytes of a value at the physical address `pa`: all of them, or none where a byte lies outside
 /// the window. Whether it was made.
-#[inline]
+#[inline(always)]
 pub fn write_bytes(base: u64, ram: &mut [u8], n: u64, pa: u64, value: u64) -> bool {
     let fits = inside(base, ram.len() as u64, n, pa);
     if fits {
@@ -85,7 +85,7 @@ pub fn write_bytes(base: u64, ram: &mut [u8], n: u64, pa: u64, value: u64) -> bo
 }
 
 /// A store of a width's bytes.
-#[inline]
+#[inline(always)]
 pub fn write(base: u64, ram: &mut [u8], width: Width, pa: u64, value: u64) -> bool {
     write_bytes(base, ram, width.bytes(), pa, value)
 }

@@ -1,0 +1,213 @@
+//! What the face has beside the core's own calls: devices, a walk, flags, names.
+mod common;
+
+use a72::{
+    Access, Broadcast, Core, Flags, Level, Mapping, Memory, Ram, Rights, Status, Stop, SystemOperation, Walk,
+    Width, registers,
+};
+use common::{BASE, bytes, core};
+
+/// RAM, and a region that reads as its address.
+struct Board {
+    ram: Vec<u8>,
+    written: Vec<(u64, Width, u64)>,
+}
+
+impl Memory for Board {
+    fn ram(&mut self) -> Ram<'_> {
+        Ram::new(BASE, &mut self.ram)
+    }
+
+    fn read(&mut self, address: u64, _: Width) -> Option<u64> {
+        (0x8000_0000..0x8000_1000).contains(&address).then_some(address)
+    }
+
+    fn write(&mut self, address: u64, width: Width, value: u64) -> bool {
+        let answers = address != 0x8000_0008;
+        self.written.extend(answers.then_some((address, width, value)));
+        answers
+    }
+}
+
+fn board() -> Board {
+    Board {
+        ram: bytes(),
+        written: vec![],
+    }
+}
+
+fn status(stop: Result<(), Stop>) -> (u64, u8) {
+    match stop {
+        Err(Stop::Fault(fault)) => (fault.address, fault.status.0),
+        _ => panic!("no fault: {stop:?}"),
+    }
+}
+
+#[test]
+fn devices_answer_outside_ram() {
+    let (mut board, mut core) = (board(), core());
+    // Page 4 lies at 0x8000_0000, outside RAM.
+    assert_eq!(core.load_from(&mut board, 0x4010, Width::Double), Ok(0x8000_0010));
+    assert_eq!(core.abort_pa(), 0x8000_0010);
+    assert_eq!(core.fetch_from(&mut board, 0x4020), Ok(0x8000_0020));
+    assert_eq!(core.store_to(&mut board, 0x4FFF, Width::Byte, 7), Ok(()));
+    assert_eq!(board.written, [(0x8000_0FFF, Width::Byte, 7)]);
+    // Nobody takes this one: the abort stays.
+    assert_eq!(
+        status(core.store_to(&mut board, 0x4008, Width::Word, 7)),
+        (0x4008, 0x10)
+    );
+    assert_eq!(core.store_to(&mut board, 0x1008, Width::Word, 7), Ok(()));
+    assert_eq!(core.load_from(&mut board, 0x1008, Width::Double), Ok(7));
+    assert_eq!(board.written.len(), 1);
+}
+
+#[test]
+fn what_no_device_is_asked_for() {
+    let (mut board, mut core) = (board(), core());
+    // Over two pages, of which the second lies outside: an abort at the second.
+    board.ram().write_u64(BASE + 0x3018, (BASE + 0xB000) | 0x403);
+    assert_eq!(
+        status(core.store_to(&mut board, 0x3FFE, Width::Word, 7)),
+        (0x4000, 0x10)
+    );
+    assert_eq!(
+        status(core.load_from(&mut board, 0x4FFE, Width::Word).map(drop)),
+        (0x4FFE, 0x10)
+    );
+    // A page that is not mapped, and a table that lies outside.
+    assert_eq!(
+        status(core.load_from(&mut board, 0x6000, Width::Word).map(drop)),
+        (0x6000, 0x07)
+    );
+    board.ram().write_u64(BASE + 0x1000, 0x8000_0003);
+    assert_eq!(
+        status(core.load_from(&mut board, 0x7000, Width::Word).map(drop)),
+        (0x7000, 0x16)
+    );
+    assert!(board.written.is_empty());
+    // RAM alone is a memory in which nothing answers.
+    let mut bytes = bytes();
+    let mut ram = Ram::new(BASE, &mut bytes);
+    let mut core = common::core();
+    assert_eq!(
+        status(core.load_from(&mut ram, 0x4000, Width::Byte).map(drop)),
+        (0x4000, 0x10)
+    );
+    assert_eq!(core.store_to(&mut ram, 0x1000, Width::Byte, 1), Ok(()));
+    assert_eq!(core.fetch_from(&mut ram, 0x1000), Ok(1));
+}
+
+#[test]
+fn a_walk_shows_and_changes_nothing() {
+    let mut bytes = bytes();
+    let ram = Ram::new(BASE, &mut bytes);
+    let mut core = core();
+    let before = core.clone();
+    let page = Mapping {
+        pa: BASE + 0x8123,
+        rights: Rights(0x3C),
+        level: 3,
+        global: true,
+        descriptor: (BASE + 0x8000) | 0x403,
+    };
+    assert_eq!(core.walk(&ram, 0x1123), Ok(Walk::Mapped(page)));
+    let Ok(Walk::Mapped(own)) = core.walk(&ram, 0x5000) else {
+        panic!("page 5 is mapped")
+    };
+    assert!(!own.global && own.rights.has(Rights::needed(Access::Write, false)));
+    assert_eq!(core.walk(&ram, 0x3000), Ok(Walk::Fault(Status(0x07))));
+    assert!(core == before);
+    core.set_level(Level::EL3).unwrap();
+    assert_eq!(core.walk(&ram, 0x3000), Ok(Walk::Flat(0x3000)));
+    assert_eq!(core.walk(&ram, 1 << 44), Ok(Walk::Fault(Status(0x00))));
+    let mut few = [0; 16];
+    let past = Ram::new(u64::MAX - 14, &mut few);
+    assert_eq!(core.walk(&past, 0), Err(Stop::Refused(a72::Check::Window)));
+    core.words_mut()[a72::place::LEVEL] = 4;
+    assert_eq!(core.walk(&past, 0), Err(Stop::Refused(a72::Check::Level)));
+}
+
+#[test]
+fn names_and_numbers() {
+    assert_eq!(
+        SystemOperation::tlbi_vae1is(3),
+        SystemOperation::decode(0xD508_8323).unwrap()
+    );
+    assert_eq!(
+        SystemOperation::at_s12e0w(1),
+        SystemOperation::decode(0xD50C_78E1).unwrap()
+    );
+    assert_eq!(
+        SystemOperation::TLBI_ALLE3,
+        SystemOperation::decode(0xD50E_871F).unwrap()
+    );
+    assert_eq!(SystemOperation::dc_civac(0).name(), Some("DC CIVAC"));
+    assert_eq!(SystemOperation::new(0, 8, 7, 6, 0).name(), None);
+    assert_eq!(u64::from(registers::PAR_EL1), 0xC3A0);
+    assert_eq!(registers::name(registers::PAR_EL1), Some("PAR_EL1"));
+    assert_eq!(
+        (registers::name(0), registers::place(0xC3A0)),
+        (None, Some(a72::place::PAR_EL1))
+    );
+}
+
+/// Every operation with a name is done at EL3; DC ZVA finds no RAM there.
+#[test]
+fn every_named_operation_is_done() {
+    let mut bytes = bytes();
+    let mut ram = Ram::new(BASE, &mut bytes);
+    for fields in 0..1 << 14 {
+        let [op1, crn, crm, op2] = [fields >> 11 & 7, fields >> 7 & 15, fields >> 3 & 15, fields & 7];
+        let operation = SystemOperation::new(op1, crn, crm, op2, 31);
+        let mut core = Core::new();
+        let done = core.system(&mut ram, operation);
+        if let Some(name) = operation.name() {
+            assert_eq!(done.is_ok(), name != "DC ZVA", "{name}: {done:?}");
+            assert_eq!(
+                core.broadcast().is_some(),
+                name.ends_with("IS") && name.starts_with("TLBI") && crm == 3,
+                "{name}"
+            );
+        }
+    }
+}
+
+#[test]
+fn flags_and_the_core_in_short() {
+    let mut core = core();
+    core.set_flags(Flags {
+        nzcv: 0b1010,
+        daif: 0b1111,
+        sp_sel: false,
+    });
+    assert_eq!(core.pstate(), 0xA000_03C4);
+    assert_eq!(
+        core.flags(),
+        Flags {
+            nzcv: 0b1010,
+            daif: 0b1111,
+            sp_sel: false
+        }
+    );
+    core.set_flags(Flags {
+        nzcv: 0xF5,
+        daif: 0xF2,
+        sp_sel: true,
+    });
+    assert_eq!(core.pstate(), 0x5000_0085);
+    assert!(
+        format!("{core:?}").starts_with("Core { level: 1, pc: 0x0, pstate: 0x50000085, asid: 0, counters:")
+    );
+    let mut other = Core::new();
+    other.receive(Broadcast::All);
+    assert_eq!(other.counters().flushes, 1);
+    assert!(size_of::<Core>() < 42_000);
+}
+
+/// A core may be shared to be read, and sent.
+#[test]
+fn a_core_is_send_and_sync() {
+    fn shared<T: Send + Sync>() {}
+    shared::<Core>();
+}

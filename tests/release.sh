@@ -1,0 +1,35 @@
+#!/bin/sh
+# The release archive as an adopter has it: unpacked in a folder of its own, with no kit in PATH, cargo's tests and documentation, the C examples and the sums.
+# Wants cargo and a C compiler, and what tools/release wants.
+set -eu
+cd "$(dirname "$0")/.."
+packed=$(tools/release | tail -n 1)
+work=$(mktemp -d)
+trap 'rm -rf "$work"' EXIT
+tar -C "$work" -xzf "$packed"
+cd "$work"/a72-*
+sha256sum --quiet -c SHA256SUMS
+
+# PATH without the kit: the folders of cargo, rustc and the C compiler alone, and the system's.
+where() { dirname "$(command -v "$1")"; }
+PATH=$(where cargo):$(where rustc):$(where "${CC:-cc}"):/usr/bin:/bin
+export PATH CARGO_TARGET_DIR="$work/target"
+unset A72_LIB
+! command -v rt >/dev/null || { echo "release.sh: rt is in PATH beside cargo or the C compiler"; exit 1; }
+
+(cd bindings/rust && cargo test --offline && RUSTDOCFLAGS='-D warnings' cargo doc --offline --no-deps) >"$work/cargo" 2>&1 || { cat "$work/cargo"; exit 1; }
+(cd bindings/rust-archive && cargo test --offline) >"$work/archive" 2>&1 || { cat "$work/archive"; exit 1; }
+tests=$(cat "$work/cargo" "$work/archive" | awk '/^test result/ { p += $4 } END { print p + 0 }')
+[ "$tests" -gt 0 ] || { echo "release.sh: cargo tested nothing"; exit 1; }
+for name in example embed; do
+    "${CC:-cc}" -Iinclude "bindings/c/$name.c" lib/liba72abi.a -o "$work/$name"
+    "$work/$name" >"$work/$name.out"
+    diff "bindings/c/$name.out" "$work/$name.out"
+done
+tools/install "$work/prefix" >/dev/null
+cmp lib/liba72abi.a "$work/prefix/lib/liba72abi.a"
+# Without the library the crate over it is checked, and says what is missing.
+rm -r lib
+(cd bindings/rust-archive && touch build.rs && cargo check --offline) >"$work/check" 2>&1 || { cat "$work/check"; exit 1; }
+grep -q 'liba72abi.a is missing' "$work/check" || { echo "release.sh: nothing says that the library is missing"; cat "$work/check"; exit 1; }
+echo "$tests tests and both examples pass from $(basename "$packed") alone"
