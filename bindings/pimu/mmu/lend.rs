@@ -49,7 +49,10 @@ where
 pub(super) fn with_ram<M: Memory + ?Sized, T>(mem: &mut M, ask: impl FnOnce(&mut Ram) -> T) -> T {
     mem.sysreg_write(LEND, 1);
     let answer = LENT.with_borrow_mut(|lent| {
-        assert!(lent.here, "the bus lends no RAM: its sysreg_write calls mmu::lends");
+        assert!(
+            lent.here,
+            "the bus lends no RAM: its sysreg_write calls mmu::lends"
+        );
         ask(&mut Ram::new(lent.base, &mut lent.bytes))
     });
     mem.sysreg_write(LEND, 0);

@@ -78,28 +78,47 @@ impl Recording {
         if !self.is_on() {
             return;
         }
-        let tcr = |key| core.register(key).unwrap_or(0);
-        let four_k = |key| tcr(key) >> 14 & 3 == 0;
-        let wide = tcr(registers::TCR_EL1) >> 36 & 1 != 0;
-        // op1 and op2, and the general register's value.
-        let (op1, op2, value) = match what {
-            Inval::Page(page) if four_k(registers::TCR_EL1) && tcr(registers::TCR_EL1) >> 30 & 3 == 2 => {
-                (0, 1, page)
-            }
-            Inval::Page(page) if four_k(registers::TCR_EL2) => (4, 1, page),
-            Inval::Page(page) if four_k(registers::TCR_EL3) => (6, 1, page),
-            Inval::Asid(asid) if wide || asid <= 0xFF => (0, 2, u64::from(asid) << 48),
-            // No TLBI asks for less: it drops more here than in the run.
-            Inval::All | Inval::Page(_) | Inval::Asid(_) => (0, 0, 0),
+        let value = |key| core.register(key).unwrap_or(0);
+        let tcr = value(registers::TCR_EL1);
+        let four_k = |key| value(key) >> 14 & 3 == 0;
+        let at = |op1: u64, op2, xt| (op1, op2, xt);
+        let (op1, op2, xt) = match what {
+            Inval::Page(page) if tcr >> 14 & 3 == 0 && tcr >> 30 & 3 == 2 => at(0, 1, page),
+            Inval::Page(page) if four_k(registers::TCR_EL2) => at(4, 1, page),
+            Inval::Page(page) if four_k(registers::TCR_EL3) => at(6, 1, page),
+            Inval::Asid(asid) if tcr >> 36 & 1 == 1 || asid <= 0xFF => at(0, 2, u64::from(asid) << 48),
+            // No TLBI asks for less: of such the trace drops more than the run did.
+            Inval::All | Inval::Page(_) | Inval::Asid(_) => at(0, 0, 0),
         };
-        let level = core.level();
-        let needed = level.max(op1 / 2).max(1);
-        if needed != level {
-            self.line(format_args!("level {needed:x}"));
+        self.at_level(core, (op1 / 2).max(1), |trace| {
+            trace.line(format_args!("x 0 {xt:x}"));
+            trace.line(format_args!("sys {op1:x} 8 7 {op2:x} 0"));
+        });
+    }
+
+    /// The hints dropped and nothing else: two writes of the register with the ASID, to another one and back.
+    pub(super) fn hints_dropped(&mut self, core: &Core) {
+        if !self.is_on() {
+            return;
         }
-        self.line(format_args!("x 0 {value:x}"));
-        self.line(format_args!("sys {op1:x} 8 7 {op2:x} 0"));
-        if needed != level {
+        let value = |key| core.register(key).unwrap_or(0);
+        let of_upper = value(registers::TCR_EL1) >> 22 & 1 == 1;
+        let key = if of_upper { registers::TTBR1_EL1 } else { registers::TTBR0_EL1 };
+        let (number, now) = (u64::from(key), value(key));
+        self.at_level(core, 1, |trace| {
+            trace.line(format_args!("reg {number:x} {:x}", now ^ 1 << 48));
+            trace.line(format_args!("reg {number:x} {now:x}"));
+        });
+    }
+
+    /// Lines at a level that is high enough, and back.
+    fn at_level(&mut self, core: &Core, least: u64, lines: impl FnOnce(&mut Recording)) {
+        let level = core.level();
+        if level < least {
+            self.line(format_args!("level {least:x}"));
+        }
+        lines(self);
+        if level < least {
             self.line(format_args!("level {level:x}"));
         }
     }

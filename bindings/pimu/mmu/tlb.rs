@@ -29,7 +29,7 @@ impl From<Inval> for Broadcast {
 
 /// A page that no walk succeeds on: bits 55 to 48 of an address in a range are all zero or all one. To drop it is to
 /// drop every hint and no entry.
-const NOWHERE: Inval = Inval::Page(0x55 << 36);
+const NOWHERE: Broadcast = Broadcast::Page(0x55 << 36);
 
 /// What was asked of the TLB since the core was last told of pimu's registers.
 #[derive(Clone, Copy, PartialEq, Eq, PartialOrd, Ord)]
@@ -233,6 +233,11 @@ impl Tlb {
         self.recording.invalidated(what, &self.core);
     }
 
+    fn drop_hints(&mut self) {
+        self.core.receive(NOWHERE);
+        self.recording.hints_dropped(&self.core);
+    }
+
     /// Ask the other cores to drop `what` too, along with anything asked
     /// since they last looked.
     pub fn broadcast(&mut self, what: Inval) {
@@ -286,7 +291,7 @@ impl Tlb {
         let Counters { flushes, epoch, .. } = self.core.counters();
         match std::mem::replace(&mut self.asked, Asked::Nothing) {
             Asked::Flush if flushes == before.flushes => self.receive(Inval::All),
-            Asked::Retag if epoch == before.epoch => self.receive(NOWHERE),
+            Asked::Retag if epoch == before.epoch => self.drop_hints(),
             _ => {}
         }
         for what in std::mem::take(&mut self.late) {
@@ -307,6 +312,22 @@ impl Tlb {
         self.recording.line(format_args!("mark {}", u8::from(mark)));
     }
 
+    /// One translation by the core, where no table is to be read.
+    #[inline]
+    pub(super) fn at_hand(&mut self, va: u64, kind: Kind) -> Option<Result<u64, Stop>> {
+        let answer = self.core.translate_at_hand(va, kind.into())?;
+        self.hits = self.core.counters().hits();
+        Some(answer)
+    }
+
+    /// The same of a fetch, and the core's hint.
+    #[inline]
+    pub(super) fn fetch_at_hand(&mut self, va: u64) -> Option<Result<u64, Stop>> {
+        let answer = self.core.fetch_at_hand(va)?;
+        self.hits = self.core.counters().hits();
+        Some(answer)
+    }
+
     /// One translation by the core.
     #[inline]
     pub(super) fn translate(&mut self, ram: &Ram, va: u64, kind: Kind) -> Result<u64, Stop> {
@@ -315,8 +336,8 @@ impl Tlb {
         answer
     }
 
-    /// The physical page of a fetch by the core, which then has a hint of it, whether RAM holds the instruction or the
-    /// bus has it elsewhere.
+    /// Where a fetch by the core goes, which then has a hint of it, whether RAM holds the instruction or the bus has it
+    /// elsewhere.
     pub(super) fn fetch(&mut self, ram: &Ram, va: u64) -> Result<u64, Stop> {
         let answer = self.core.fetch(ram, va);
         self.count();
@@ -328,7 +349,7 @@ impl Tlb {
             | Ok(_) => {}
             Err(stop) => return Err(stop),
         }
-        Ok(self.core.fetch_hint().map_or(0, |hint| hint.pa))
+        Ok(self.core.fetch_hint().map_or(0, |hint| hint.pa) | (va & 0xFFF))
     }
 
     /// `AT` by the core: what it leaves in `PAR_EL1`.
@@ -348,8 +369,13 @@ impl Tlb {
         self.core.register(registers::PAR_EL1).unwrap_or(0)
     }
 
-    /// Whether accesses are recorded.
+    /// Whether hints are asked past the core.
     #[inline(always)]
+    pub(super) fn asks_hints(&self) -> bool {
+        self.hints
+    }
+
+    /// Whether accesses are recorded.
     pub(super) fn records(&self) -> bool {
         self.recording.is_on()
     }

@@ -41,7 +41,8 @@ impl Counters {
         self.sum(|level| level.walks)
     }
 
-    fn sum(&self, of: fn(&LevelCounters) -> u64) -> u64 {
+    #[inline(always)]
+    fn sum(&self, of: impl Fn(&LevelCounters) -> u64) -> u64 {
         self.levels.iter().map(of).fold(0, u64::wrapping_add)
     }
 }

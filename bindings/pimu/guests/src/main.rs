@@ -4,6 +4,7 @@ mod directed;
 mod encode;
 mod pair;
 mod random;
+mod retrace;
 mod rng;
 mod scene;
 mod side;
@@ -126,10 +127,13 @@ fn main() {
         Some("directed") => directed::<Proved>(),
         Some("random") => wander::seeds::<Proved>(number(1, 1), number(2, 200), number(3, 4000)),
         Some("record") if words.len() == 3 => record(&words[1], &words[2]),
-        Some("speed") => speed::table(number(1, 4_000_000)),
+        Some("recorded") if words.len() == 5 => {
+            wander::recorded(number(1, 1), number(2, 1), number(3, 1), &words[4])
+        }
+        Some("speed") => speed::table(number(1, 4_000_000), words.get(2).map_or("", String::as_str)),
         Some("mistakes") => mistakes(number(1, 400)),
         _ => {
-            eprintln!("usage: guests directed | random FROM TO STEPS | mistakes SEEDS | record NAME TRACE | speed STEPS");
+            eprintln!("usage: guests directed | random FROM TO STEPS | mistakes SEEDS | record NAME TRACE | recorded FROM TO STEPS TRACE | speed STEPS LOOP");
             std::process::exit(2);
         }
     };

@@ -2,6 +2,7 @@
 use crate::encode::{msr, TTBR1_EL1};
 use crate::pair::Pair;
 use crate::random::{any_access, guest};
+use crate::retrace;
 use crate::rng::Rng;
 use crate::side::{Ended, Inval, Side};
 use std::collections::BTreeMap;
@@ -21,12 +22,20 @@ pub struct Way {
 
 /// One seed, of one core or of two.
 pub fn seed<B: Side>(seed: u64, steps: u64) -> Way {
+    walked::<B>(seed, steps, None).0
+}
+
+/// The same, with what the first core does recorded; and the two sides as they are at the end.
+fn walked<B: Side>(seed: u64, steps: u64, record: Option<&str>) -> (Way, Pair<B>) {
     let cores = 1 + (seed % 3 == 2) as usize;
     let (bus, starts) = guest(seed, cores);
     let mut pair: Pair<B> = Pair::new(bus, cores);
     pair.lazy = true;
     for (n, start) in starts.iter().enumerate() {
         pair.start(n, *start);
+    }
+    if let Some(path) = record {
+        pair.b[0].record(path);
     }
     let mut rng = Rng::new(seed ^ 0x5EED);
     let (mut lost, mut turn) = (0, 0);
@@ -82,8 +91,33 @@ pub fn seed<B: Side>(seed: u64, steps: u64) -> Way {
             *pair.seen.entry(what.into()).or_default() += n;
         }
     }
-    way.seen = pair.seen;
-    way
+    way.seen = std::mem::take(&mut pair.seen);
+    (way, pair)
+}
+
+/// Seeds whose first core is recorded, and each trace carried out again; how many went wrong.
+pub fn recorded(from: u64, to: u64, steps: u64, path: &str) -> usize {
+    let (mut wrong, mut lines) = (0, 0);
+    for n in from..to {
+        let (way, mut pair) = walked::<proved::aarch64::Cpu>(n, steps, Some(path));
+        pair.b[0].end_recording();
+        let again = match way.differs {
+            Some(differs) => Err(differs),
+            None => retrace::check(path, &pair.b[0], &pair.bus_b),
+        };
+        match again {
+            Ok(n) => lines += n,
+            Err(e) => {
+                wrong += 1;
+                println!("seed {n}: {e}");
+            }
+        }
+    }
+    println!(
+        "{} runs recorded, {lines} lines carried out again, {wrong} end otherwise",
+        to - from
+    );
+    wrong
 }
 
 /// A register write, perhaps another core's invalidation, and an access, none of them fetched.
@@ -94,12 +128,15 @@ fn unfetched<B: Side>(pair: &mut Pair<B>, turn: usize, rng: &mut Rng) -> Result<
         other => return Ok(other),
     }
     // With stage 1 off addresses from 2^44 on are answered otherwise, on purpose.
-    let va = pair.a[turn].registers().x[0];
+    let registers = pair.a[turn].registers();
+    let va = registers.x[0];
+    // TLBI by address asks for a page where pages have 4 KiB.
+    let pages = registers.banks[1][1] >> 14 & 3 == 0 && registers.banks[1][1] >> 30 & 3 == 2;
     if !(0x1000..1 << 43).contains(&va) {
         return Ok(Ended::Retired);
     }
     let what = match rng.below(4) {
-        0 => Some(Inval::Page(va >> 12)),
+        0 if pages => Some(Inval::Page(va >> 12)),
         1 => Some(Inval::Asid(1 + rng.below(3) as u16)),
         _ => None,
     };
