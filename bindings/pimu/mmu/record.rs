@@ -103,7 +103,11 @@ impl Recording {
         }
         let value = |key| core.register(key).unwrap_or(0);
         let of_upper = value(registers::TCR_EL1) >> 22 & 1 == 1;
-        let key = if of_upper { registers::TTBR1_EL1 } else { registers::TTBR0_EL1 };
+        let key = if of_upper {
+            registers::TTBR1_EL1
+        } else {
+            registers::TTBR0_EL1
+        };
         let (number, now) = (u64::from(key), value(key));
         self.at_level(core, 1, |trace| {
             trace.line(format_args!("reg {number:x} {:x}", now ^ 1 << 48));

@@ -6,7 +6,13 @@ use std::{env, fs};
 
 const PUBLISHED: [&str; 4] = ["cpu.rs", "sysreg.rs", "exec.rs", "mod.rs"];
 const STUBS: [&str; 4] = ["fp.rs", "fpinsn.rs", "simd.rs", "predecode.rs"];
-const OURS: [&str; 4] = ["mmu.rs", "mmu/tlb.rs", "mmu/lend.rs", "mmu/record.rs"];
+const OURS: [&str; 5] = [
+    "mmu.rs",
+    "mmu/tlb.rs",
+    "mmu/shape.rs",
+    "mmu/lend.rs",
+    "mmu/record.rs",
+];
 
 fn read(path: &Path) -> String {
     println!("cargo:rerun-if-changed={}", path.display());

@@ -1,4 +1,5 @@
 //! Guests on pimu as published and on pimu on the proved core, side by side.
+mod accesses;
 mod bus;
 mod directed;
 mod encode;
@@ -55,11 +56,17 @@ fn play<B: Side>(guest: &Guest, record: Option<&str>) -> Result<u64, String> {
     Ok(pair.steps)
 }
 
+/// The directed guests.
+fn guests() -> Vec<Guest> {
+    let some = directed::all().into_iter().chain(accesses::all());
+    some.chain(voices::all()).collect()
+}
+
 /// Every directed guest; how many went wrong.
 fn directed<B: Side>() -> usize {
     let mut wrong = 0;
-    for guest in directed::all().iter().chain(&voices::all()) {
-        match play::<B>(guest, None) {
+    for guest in guests() {
+        match play::<B>(&guest, None) {
             Ok(steps) => println!(
                 "{:30} {steps} steps, {} results as known",
                 guest.name,
@@ -76,9 +83,12 @@ fn directed<B: Side>() -> usize {
 
 /// Records a guest, by a piece of its name, as FOLDER/guest.trace; how many could not be.
 fn record(name: &str, path: &str) -> usize {
-    let all = directed::all().into_iter().chain(voices::all());
     let mut wrong = 1;
-    for guest in all.filter(|guest| guest.name.contains(name)).take(1) {
+    for guest in guests()
+        .into_iter()
+        .filter(|guest| guest.name.contains(name))
+        .take(1)
+    {
         match play::<Proved>(&guest, Some(path)) {
             Ok(steps) => {
                 wrong = 0;
@@ -98,10 +108,10 @@ fn mistakes(seeds: u64) -> usize {
         .skip(1)
         .map(|block| block.lines().next().unwrap_or(""))
         .collect();
+    let guests = guests();
     let mut missed = 0;
     for (n, name) in (1..).zip(&names) {
         mistaken::MISTAKE.store(n, Ordering::Relaxed);
-        let guests: Vec<Guest> = directed::all().into_iter().chain(voices::all()).collect();
         let caught: Vec<&str> = guests
             .iter()
             .filter(|g| play::<Mistaken>(g, None).is_err())

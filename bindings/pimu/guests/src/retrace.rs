@@ -41,6 +41,9 @@ pub fn check(path: &str, recorded: &proved::aarch64::Cpu, bus: &Bus) -> Result<u
             _ => return Err(format!("{path}:{n}: {line}")),
         }
     }
+    if base == 0 {
+        return Ok(0); // the core did nothing
+    }
     if bytes != bus.ram {
         let at = bytes.iter().zip(&bus.ram).position(|(a, b)| a != b);
         return Err(format!(
