@@ -106,7 +106,8 @@ fn mistakes(seeds: u64) -> usize {
     let names: Vec<&str> = list
         .split("\n== ")
         .skip(1)
-        .map(|block| block.lines().next().unwrap_or(""))
+        .filter_map(|block| block.lines().next()?.rsplit_once(": "))
+        .map(|(name, _)| name)
         .collect();
     let guests = guests();
     let mut missed = 0;
