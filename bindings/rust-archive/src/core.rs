@@ -127,6 +127,16 @@ impl Core {
         }
     }
 
+    /// The library has no call for what is at hand: `None`, and [`Core::translate`] does it all.
+    pub fn translate_at_hand(&mut self, _va: u64, _access: Access) -> Option<Result<u64, Stop>> {
+        None
+    }
+
+    /// The same of [`Core::fetch`].
+    pub fn fetch_at_hand(&mut self, _va: u64) -> Option<Result<u64, Stop>> {
+        None
+    }
+
     /// Where an instruction fetch from `va` would go; `None` where it would fault.
     #[inline]
     pub fn fetch_pa(&mut self, ram: &Ram, va: u64) -> Result<Option<u64>, Stop> {

@@ -71,6 +71,7 @@
 extern crate std;
 
 mod answer;
+mod at_hand;
 #[cfg(feature = "std")]
 mod boxed;
 mod census;

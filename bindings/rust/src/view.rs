@@ -30,16 +30,19 @@ pub struct Counters {
 
 impl Counters {
     /// The hits of all levels: their sum, wrapped at 2^64.
+    #[inline]
     pub fn hits(&self) -> u64 {
         self.sum(|level| level.hits)
     }
 
     /// The walks of all levels: their sum, wrapped at 2^64.
+    #[inline]
     pub fn walks(&self) -> u64 {
         self.sum(|level| level.walks)
     }
 
-    fn sum(&self, of: fn(&LevelCounters) -> u64) -> u64 {
+    #[inline(always)]
+    fn sum(&self, of: impl Fn(&LevelCounters) -> u64) -> u64 {
         self.levels.iter().map(of).fold(0, u64::wrapping_add)
     }
 }
@@ -216,6 +219,7 @@ impl Core {
     }
 
     /// The cache's counters.
+    #[inline]
     pub fn counters(&self) -> Counters {
         let tlb = &self.core.tlb;
         let levels = tlb.levels.map(|tally| LevelCounters {
@@ -255,11 +259,13 @@ impl Core {
     }
 
     /// Forget what another core's TLBI asks for. What is pending here stays.
+    #[inline]
     pub fn receive(&mut self, broadcast: Broadcast) {
         self.core.tlb.invalidate(broadcast.into());
     }
 
     /// The cache's generation: a flush moves it, and entries of another are dead.
+    #[inline]
     pub fn generation(&self) -> u32 {
         self.core.tlb.generation
     }
@@ -271,6 +277,7 @@ impl Core {
     }
 
     /// The ASID in force.
+    #[inline]
     pub fn asid(&self) -> u16 {
         self.core.tlb.asid
     }
@@ -292,12 +299,14 @@ impl Core {
     }
 
     /// The data hint in a slot, 0 to 511, if there is one.
+    #[inline]
     pub fn hint(&self, slot: usize) -> Option<Hint> {
         let tlb::hint::Hint { key, pa } = *self.core.tlb.hints.get(slot)?;
         (key != u64::MAX).then_some(Hint { key, pa })
     }
 
     /// The fetch hint, if there is one.
+    #[inline]
     pub fn fetch_hint(&self) -> Option<FetchHint> {
         let tlb::hint::FetchHint { page, level, pa } = self.core.tlb.fetch?;
         Some(FetchHint { page, level, pa })

@@ -1,0 +1,109 @@
+//! Translations that need no RAM: for an emulator whose RAM is not at hand, and is asked for where tables are walked.
+use crate::answer::{Check, Stop};
+use crate::core::Core;
+use crate::operation::{Access, Status};
+use crate::stage1::fault::Fault;
+use crate::stage1::tlb::access::Kind;
+use crate::stage1::tlb::hint::FetchHint;
+
+impl Core {
+    /// [`Core::translate`] where nothing is walked: by a hint, with stage 1 off, or by an entry of the cache. `None` where
+    /// the tables are to be walked: nothing was changed, and `translate` does it all.
+    #[inline]
+    pub fn translate_at_hand(&mut self, va: u64, access: Access) -> Option<Result<u64, Stop>> {
+        if self.core.privilege.level > 3 {
+            return Some(Err(Stop::Refused(Check::Level)));
+        }
+        let kind = match access {
+            Access::Read => Kind::Read,
+            Access::Write => Kind::Write,
+            Access::Fetch => Kind::Fetch,
+        };
+        match self.core.tlb.by_hint(self.core.privilege, va, kind) {
+            Some(pa) => Some(Ok(pa)),
+            None => self.past_hint(va, kind, access),
+        }
+    }
+
+    /// The physical address that [`Core::fetch`] reads, where nothing is walked; the fetch hint becomes its page. `None` as
+    /// for [`Core::translate_at_hand`].
+    #[inline]
+    pub fn fetch_at_hand(&mut self, va: u64) -> Option<Result<u64, Stop>> {
+        if self.core.privilege.level > 3 {
+            return Some(Err(Stop::Refused(Check::Level)));
+        }
+        let answer = match self.core.tlb.by_fetch_hint(self.core.privilege.level, va) {
+            Some(pa) => Some(Ok(pa)),
+            None => self.past_hint(va, Kind::Fetch, Access::Fetch),
+        };
+        if let Some(Ok(pa)) = answer {
+            self.core.tlb.fetch = Some(FetchHint::new(va, self.core.privilege.level, pa));
+        }
+        answer
+    }
+
+    #[inline]
+    fn past_hint(&mut self, va: u64, kind: Kind, access: Access) -> Option<Result<u64, Stop>> {
+        let fault = |Fault { fsc }: Fault| {
+            Stop::Fault(crate::Fault {
+                access,
+                address: va,
+                status: Status(fsc),
+            })
+        };
+        let answer = self.core.at_hand(0, &[], va, kind)?;
+        Some(answer.map_err(fault))
+    }
+}
+
+#[cfg(all(test, feature = "std"))]
+mod tests {
+    use crate::{Access, Core, Ram, SystemOperation, Width, registers};
+
+    /// One core is asked at hand first, the other never: all that they hold is the same.
+    #[test]
+    fn it_is_the_first_half_of_the_operation() {
+        let mut bytes = std::vec![0; 0x1_0000];
+        let mut ram = Ram::new(0x4000_0000, &mut bytes);
+        for (at, word) in [
+            (0, 0x4000_1003),
+            (0x1000, 0x4000_2003),
+            (0x2008, 0x4000_8403),
+            (0x2010, 0x4000_9483),
+        ] {
+            assert!(ram.write_u64(0x4000_0000 + at, word));
+        }
+        let mut core = Core::new();
+        core.write_register(registers::TCR_EL1, 25).unwrap();
+        core.write_register(registers::TTBR0_EL1, 0x4000_0000).unwrap();
+        core.set_level(3).unwrap();
+        let mut other = core.clone();
+        for step in 0..400u64 {
+            let va = [0x1000, 0x2000, 0x3000, 1 << 44][(step * 7 % 4) as usize] + step % 16 * 8;
+            let access = [Access::Read, Access::Write, Access::Fetch][(step % 3) as usize];
+            match core.translate_at_hand(va, access) {
+                Some(answer) => assert_eq!(answer, other.translate(&ram, va, access)),
+                None => assert_eq!(
+                    core.translate(&ram, va, access),
+                    other.translate(&ram, va, access)
+                ),
+            }
+            match core.fetch_at_hand(va) {
+                Some(answer) => assert_eq!(answer.ok(), other.fetch_pa(&ram, va).unwrap()),
+                None => assert_eq!(core.fetch_pa(&ram, va), other.fetch_pa(&ram, va)),
+            }
+            for core in [&mut core, &mut other] {
+                match step {
+                    50 => core.write_register(registers::SCTLR_EL1, 1).unwrap(),
+                    60 | 200 => core.set_level(1).unwrap(),
+                    120 => core.set_level(0).unwrap(),
+                    250 => core.set_unprivileged(true).unwrap(),
+                    300 => core.system(&mut ram, SystemOperation::TLBI_VMALLE1).unwrap(),
+                    _ => {}
+                }
+            }
+            assert!(core == other, "after step {step}");
+        }
+        assert!(core.counters().hits() > 0 && core.load(&ram, 0x1000, Width::Byte).is_err());
+    }
+}
