@@ -19,6 +19,8 @@ const PATH: usize = 4096;
 pub struct Options<'a> {
     pub image: Option<Image<'a>>,
     pub short: bool,
+    pub words: bool,
+    pub full: bool,
     pub all: bool,
     pub svg: bool,
     pub help: bool,
@@ -83,6 +85,31 @@ fn image(word: &str) -> Result<Image<'_>, Stop> {
     Ok(Image { path, addr })
 }
 
+impl Options<'_> {
+    /// What is wrong with the options of a call: one of another command, or two that exclude each other.
+    pub fn misplaced(&self, command: &str) -> Option<&'static str> {
+        if self.short && command != "run" {
+            return Some("--short is an option of run");
+        }
+        if self.words && command != "run" {
+            return Some("--words is an option of run");
+        }
+        if self.full && command != "run" {
+            return Some("--full is an option of run");
+        }
+        if self.all && command != "audit" {
+            return Some("--all is an option of audit");
+        }
+        if self.svg && command != "census" {
+            return Some("--svg is an option of census");
+        }
+        if self.image.is_some() && matches!(command, "chord" | "help") {
+            return Some("--image is an option of the commands that take a TRACE");
+        }
+        (self.short && self.words).then_some("run wants --short or --words, and not both")
+    }
+}
+
 impl<'a> Arguments<'a> {
     /// The words as options and others. An option that is not known is a wrong call.
     pub fn new(words: &'a [String], others: Vec<&'a str>) -> Result<Arguments<'a>, Stop> {
@@ -95,6 +122,9 @@ impl<'a> Arguments<'a> {
             let word = word.as_str();
             let options = &mut all.options;
             if wants_image {
+                if options.image.is_some() {
+                    return Err(Stop::Usage("--image stands twice"));
+                }
                 options.image = Some(image(word)?);
                 wants_image = false;
                 continue;
@@ -102,6 +132,8 @@ impl<'a> Arguments<'a> {
             match word {
                 "--image" => wants_image = true,
                 "--short" => options.short = true,
+                "--words" => options.words = true,
+                "--full" => options.full = true,
                 "--all" => options.all = true,
                 "--svg" => options.svg = true,
                 "-h" | "--help" => options.help = true,

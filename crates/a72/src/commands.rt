@@ -12,7 +12,7 @@ use tlb::access::Kind;
 use trace_core::memory;
 use trace_file::auditor::Auditor;
 use trace_file::carry::{Audited, Shown, Silent};
-use trace_file::{run, show};
+use trace_file::{cache, run, show};
 use walk_report::explain;
 
 // `a72 run`.
@@ -27,11 +27,17 @@ fn run<R: Files + Input + AllocGlobal, W: Write>(
     };
     let form = if arguments.options.short {
         show::Form::Short
+    } else if arguments.options.words {
+        show::Form::Words
     } else {
         show::Form::Whole
     };
     let trace = arguments.trace(path)?;
-    run::run(rt, trace, &mut Shown { out, form })?;
+    let mut shown = Shown { out, form };
+    let machine = run::run(rt, trace, &mut shown)?;
+    if arguments.options.full {
+        cache::show(shown.out, &machine.core)?;
+    }
     Ok(())
 }
 
@@ -193,6 +199,12 @@ pub fn carry_out<R: Files + Input + AllocGlobal, W: Write>(
     let Some((name, rest)) = arguments.words.split_first() else {
         return Err(Stop::NoCommand);
     };
+    if !usage::is_command(name) {
+        return Err(Stop::NoSuchCommand);
+    }
+    if let Some(why) = arguments.options.misplaced(name) {
+        return Err(Stop::Usage(why));
+    }
     match *name {
         "run" => run(rt, out, arguments, rest),
         "audit" => audit(rt, out, arguments, rest),

@@ -98,7 +98,14 @@ fn unknown_option(words: &[String]) -> &str {
     let known = |word: &str| {
         matches!(
             word,
-            "--image" | "--short" | "--all" | "--svg" | "--help" | "--version"
+            "--image"
+                | "--short"
+                | "--words"
+                | "--full"
+                | "--all"
+                | "--svg"
+                | "--help"
+                | "--version"
         )
     };
     let unknown = words.iter().find(|word| word.as_str().starts_with("--")

@@ -12,7 +12,8 @@ const COMMANDS: [&str; 7] = [
 const DETAILS: &str = "
 run      carries out a trace on the proved core and prints a line for each operation: its line number,
          the operation, the answer, counters, registers kept and digests, as the Rust's run does; --short: no more
-         than the answer.
+         than the answer; --words: the answer, and below it names, faults, ESR, FAR, PAR and MAIR in words;
+         --full: after the trace each live entry of the cache and each hint.
 audit    carries out a trace, and beside each access walks the tables afresh: shows the first answer that such a walk
          would not give (--all: each), the line that filled the cache, the line that changed the table, and whether
          a TLBI came between. The status is 1 where there is one.
@@ -28,14 +29,25 @@ chord    sixteen voices, a page each, and every order of a small chord: no tone 
 
 TRACE is a file of lines, or - for standard input, which is carried out as it comes: tr, dpa, fpa, ld, st, if, sys,
 reg, level, mark, x, abort, census; fresh, window, zero, poke, load; leaves l-..; pokes p-..; parts w-.. Numbers are
-hexadecimal without 0x; # starts a comment. A file with a bad line gets a message `a72: FILE:LINE:COLUMN: reason`
+hexadecimal without 0x; # starts a comment. Names stand for numbers as an assembler has them: reg TCR_EL1 19,
+tlbi vae1is x1, at s1e1r x0, dc zva x2. A file with a bad line gets a message `a72: FILE:LINE:COLUMN: reason`
 on standard error, and nothing else happens. --image FILE@ADDRESS: the bytes of FILE, a raw dump, are the
 window before the first line, from the physical ADDRESS on.
 ";
 
+/// Whether a word is the name of a command.
+pub fn is_command(word: &str) -> bool {
+    for name in COMMANDS {
+        if name == word {
+            return true;
+        }
+    }
+    false
+}
+
 /// The calls.
 pub fn usage<W: Write>(out: &mut W) -> io::Result<()> {
-    writeln!(out, "usage: a72 run TRACE [--short]")?;
+    writeln!(out, "usage: a72 run TRACE [--short|--words] [--full]")?;
     writeln!(out, "       a72 audit TRACE [--all]")?;
     writeln!(
         out,
