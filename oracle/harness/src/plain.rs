@@ -83,7 +83,8 @@ fn step(core: &mut a72::Core, op: &Op, ram: &mut a72::Ram) -> Result<Ans, Stop> 
         Op::Fetch(va) => core.fetch(ram, va).map(|v| Ans::Val(v.into())),
         Op::Sys(op1, crn, crm, op2, rt) => {
             let [op1, crn, crm, op2, rt] = [op1, crn, crm, op2, rt].map(u64::from);
-            core.system(ram, SystemOperation::new(op1, crn, crm, op2, rt)).map(done)
+            core.system(ram, SystemOperation::new(op1, crn, crm, op2, rt))
+                .map(done)
         }
         Op::Reg(key, v) => core.write_register(Key::from(u64::from(key)), v).map(done),
         Op::Level(level) => core.set_level(Level::from(u64::from(level))).map(done),
@@ -96,6 +97,11 @@ fn step(core: &mut a72::Core, op: &Op, ram: &mut a72::Ram) -> Result<Ans, Stop> 
 }
 
 impl PlainCore {
+    /// The crate's own core.
+    pub fn core(&self) -> &a72::Core {
+        &self.core
+    }
+
     /// All that it holds, as words.
     fn words(&self) -> Words {
         let mut words = self.core.words();
