@@ -3,7 +3,7 @@ use a72::{Access, Core, Exception, Ram, Status, Stop, SystemOperation};
 use harness::census::{COUNTS, FLAT, RIGHTS, STATUS};
 use harness::ffi::{exception, state_of};
 use harness::rust::RustCore;
-use harness::{feed, Ans, Core as _, Line, Op};
+use harness::{Ans, Core as _, Line, Op, feed};
 
 /// The format is that of the oracle's traces: numbers hexadecimal, `#` starts a comment.
 const TRACE: &str = "

@@ -1,8 +1,8 @@
 //! The census: its counts and its refusals.
 mod common;
 
-use a72::{place, Access, Census, Check, Ram, Rights, Status, Stop, MOST_PAGES};
-use common::{bytes, core, BASE};
+use a72::{Access, Census, Check, MOST_PAGES, Ram, Rights, Status, Stop, place};
+use common::{BASE, bytes, core};
 
 /// A census with these counts by status and by permission byte, and all else 0.
 fn counted(statuses: &[(usize, u64)], rights: &[(usize, u64)], flat: u64) -> Census {

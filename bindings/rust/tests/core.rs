@@ -2,10 +2,10 @@
 mod common;
 
 use a72::{
-    place, registers, Access, Broadcast, Check, Core, Exception, Fault, FetchHint, Hint, Ram, Rights, Status,
-    Stop, SystemOperation, Width, WORDS,
+    Access, Broadcast, Check, Core, Exception, Fault, FetchHint, Hint, Ram, Rights, Status, Stop,
+    SystemOperation, WORDS, Width, place, registers,
 };
-use common::{bytes, core, BASE};
+use common::{BASE, bytes, core};
 
 fn fault(access: Access, address: u64, status: u8) -> Stop {
     Stop::Fault(Fault {

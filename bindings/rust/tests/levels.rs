@@ -1,8 +1,8 @@
 //! The counters of each exception level.
 mod common;
 
-use a72::{place, Access, Core, LevelCounters, Ram, SystemOperation, Width};
-use common::{bytes, core, BASE};
+use a72::{Access, Core, LevelCounters, Ram, SystemOperation, Width, place};
+use common::{BASE, bytes, core};
 
 /// Hits and walks of EL0 to EL3.
 fn pairs(core: &Core) -> [(u64, u64); 4] {

@@ -1,5 +1,5 @@
 //! What the tests share: RAM with tables, and a core that uses them.
-use a72::{registers, Core, Ram};
+use a72::{Core, Ram, registers};
 
 pub const BASE: u64 = 0x4000_0000;
 
