@@ -313,12 +313,6 @@ impl Tlb {
         self.core.register(registers::PAR_EL1).unwrap_or(0)
     }
 
-    /// Whether hints are asked past the core.
-    #[inline(always)]
-    pub(super) fn asks_hints(&self) -> bool {
-        self.hints
-    }
-
     /// Whether accesses are recorded.
     pub(super) fn records(&self) -> bool {
         self.recording.is_on()
