@@ -6,10 +6,12 @@ cat <<'TEXT'
 ## The same text as plain Rust
 
 The crate `bindings/rust`, by its methods, in the library's place: what rustc makes of the text that was proved, in the same release build as pimu's Rust (16 units, no LTO). Each method stands behind one call
-that is not inlined, as pimu's function does, and makes its checks; an emulator that calls it pays no such call. The library's own numbers are those of the table above.
+that is not inlined, as pimu's function does, and makes its checks; an emulator that calls it pays no such call. The library's own times are those of the table above.
 The bars: translations, loads, stores, fetches and TLBI 1.0; register writes, settings, abort entry and DC ZVA 1.2.
 
-    cargo run --release --offline --bin bench -- time 900 --plain
+    RUSTFLAGS="-C llvm-args=-x86-branches-within-32B-boundaries" cargo run --offline --release --bin bench -- time 900 --plain
+
+With this flag neither side has a jump over a boundary of 32 bytes, so that this processor's erratum ("The place of a function", below) decides nothing; without it a hint's ratio is anywhere from 0.8 to 1.3 from build to build. Instructions are those of the build without it.
 
 TEXT
 sed '/^$/,$d' "$1"

@@ -18,7 +18,8 @@ cp tools/said.sh tools/build tools/requires.awk "$here/tools"
 echo 'echo the places are one' >"$here/tests/places.sh"
 printf '#!/bin/sh\necho all is as counted\n' >"$here/tools/counts"
 printf '#!/bin/sh\ncp "$1" "$2"\n' >"$here/tools/lay"
-chmod +x "$here/tools/counts" "$here/tools/lay"
+printf '#!/bin/sh\n' >"$here/tools/plain"
+chmod +x "$here/tools/counts" "$here/tools/lay" "$here/tools/plain"
 printf 'word:\na72: word io\nreplay: word\ncases: word\ncore_static staticlib: word\n' >"$here/crates.txt"
 echo 'kit of the test' >"$here/kit"
 : >"$here/crates/word/src/lib.rt"
@@ -179,6 +180,9 @@ echo 'echo the places are one' >tests/places.sh
 printf '#!/bin/sh\necho page:7: states 75, counted 76\nexit 1\n' >tools/counts
 in_out 1 ./check && { has err 'page:7: states 75, counted 76'; last out '0 passed, 1 failed'; }
 printf '#!/bin/sh\necho all is as counted\n' >tools/counts
+printf '#!/bin/sh\necho tlb/hint.rs: not what tools/plain writes\nexit 1\n' >tools/plain
+in_out 1 ./check && { has err 'tlb/hint.rs: not what tools/plain writes'; last out '0 passed, 1 failed'; }
+printf '#!/bin/sh\n' >tools/plain
 mkdir crates/stray
 in_out 1 ./check && { has err 'check: crates/stray is not listed in crates.txt'; last out '0 passed, 1 failed'; }
 rmdir crates/stray
@@ -206,7 +210,7 @@ in_out 0 env PATH="$work/bin:$work/few" ./check tests && {
     has out 'check: rows of docs/DIFFERENCES.md: left out, python3 is missing'
     last out '3 passed, 0 failed'
 }
-in_out 1 env PATH="$work/bin:$work/few" ./check all && last out '6 passed, 5 failed'
+in_out 1 env PATH="$work/bin:$work/few" ./check all && last out '6 passed, 9 failed'
 
 # Stopped: what rt had started ends too, and no scratch files stay.
 cat >"$DOES" <<RT

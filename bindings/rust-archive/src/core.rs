@@ -10,7 +10,8 @@ use std::fmt::{self, Debug, Formatter};
 
 /// One core: its registers, its cache of translations and their counters, in 41,744 bytes of its own.
 ///
-/// It is `Send`, and not `Sync`: the library takes a core for its own as long as a call lasts, also where it only reads.
+/// It is `Send`, and not `Sync`: the library takes a core for its own as long as a call lasts, also where it only
+/// reads.
 ///
 /// ```compile_fail
 /// fn shared<T: Sync>() {}
@@ -67,8 +68,8 @@ impl Core {
         Core { held: Held::new() }
     }
 
-    /// The core of these words, as [`Self::words`] gave them, or any others: of a word that is larger than its part some
-    /// bits count.
+    /// The core of these words, as [`Self::words`] gave them, or any others: of a word that is larger than its part
+    /// some bits count.
     pub fn from_words(words: Box<[u64; WORDS]>) -> Core {
         let mut core = Core::new();
         core.restore(&words);
@@ -106,8 +107,8 @@ impl Core {
         self.words()
     }
 
-    /// The physical address of `va` for an access of this kind at the present level. With stage 1 off: `va` without its tag
-    /// where TBI drops that, and from 2^44 on a fault of status 0x00.
+    /// The physical address of `va` for an access of this kind at the present level. With stage 1 off: `va` without
+    /// its tag where TBI drops that, and from 2^44 on a fault of status 0x00.
     #[inline]
     pub fn translate(&mut self, ram: &Ram, va: u64, access: Access) -> Result<u64, Stop> {
         match raw::translate(&mut self.held, va, access as u64, ram.base, ram.bytes) {
@@ -238,8 +239,8 @@ impl Core {
         done(raw::general(&mut self.held, number, value))
     }
 
-    /// Take an exception: it is routed by SCR_EL3 and HCR_EL2; ELR, SPSR, ESR and FAR are written, the level and the PC
-    /// are those of the vector.
+    /// Take an exception: it is routed by SCR_EL3 and HCR_EL2; ELR, SPSR, ESR and FAR are written, the level and the
+    /// PC are those of the vector.
     pub fn take(&mut self, exception: &Exception) -> Result<(), Stop> {
         done(raw::abort(&mut self.held, &of_exception(exception)))
     }

@@ -3,7 +3,8 @@ use crate::core::Core;
 use plain::place::State;
 use std::ops::{Deref, DerefMut};
 
-/// The words of a core, to be changed ([`Core::words_mut`]): the core becomes the one that they hold when this is dropped.
+/// The words of a core, to be changed ([`Core::words_mut`]): the core becomes the one that they hold when this is
+/// dropped.
 pub struct Edit<'a> {
     core: &'a mut Core,
     words: Box<State>,

@@ -25,8 +25,8 @@ const _: () = assert!(size_of::<Memory>() == CORE_SIZE && align_of::<Memory>() =
 /// A core of the library. It owns its memory, which stays where it is.
 pub struct Held(NonNull<Memory>);
 
-// Sound: nobody else has the memory. A core is not `Sync`: the library takes it for its own as long as a call lasts, also
-// where it only reads.
+// Sound: nobody else has the memory. A core is not `Sync`: the library takes it for its own as long as a call lasts,
+// also where it only reads.
 unsafe impl Send for Held {}
 
 impl Held {

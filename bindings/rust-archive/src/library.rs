@@ -1,5 +1,5 @@
-//! The functions of liba72abi.a; `include/a72.h` says what each does. A core is a pointer to its handle; an array is one
-//! pointer, a struct of words too, RAM a pointer and its length.
+//! The functions of liba72abi.a; `include/a72.h` says what each does. A core is a pointer to its handle; an array is
+//! one pointer, a struct of words too, RAM a pointer and its length.
 use super::place::State;
 use std::ffi::c_void;
 

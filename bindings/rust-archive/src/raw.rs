@@ -8,10 +8,10 @@ use plain::count::{Counts, COUNTS};
 use plain::number::DONE;
 
 // Why each call below is sound: the library reads and writes the core's memory, the bytes of `ram` up to the length
-// beside it, and the one word `ans` or the array it answers in, and keeps no pointer. The core has its memory for itself
-// and is not `Sync`, so that no other call uses it; the others come from references that live through the call, and what
-// is written is borrowed exclusively or local, so nothing overlaps. The library asks nothing of the values: whatever
-// they are, it stays inside and ends, which is proved.
+// beside it, and the one word `ans` or the array it answers in, and keeps no pointer. The core has its memory for
+// itself and is not `Sync`, so that no other call uses it; the others come from references that live through the
+// call, and what is written is borrowed exclusively or local, so nothing overlaps. The library asks nothing of the
+// values: whatever they are, it stays inside and ends, which is proved.
 
 #[inline]
 pub fn translate(core: &mut Held, va: u64, kind: u64, base: u64, ram: &[u8]) -> (u64, u64) {

@@ -106,8 +106,8 @@ impl Core {
         raw::get_generation(&self.held) as u32
     }
 
-    /// Set the cache's generation, as if many flushes had gone by: the entries that are live stay live, all others become
-    /// blank, and the hints stay.
+    /// Set the cache's generation, as if many flushes had gone by: the entries that are live stay live, all others
+    /// become blank, and the hints stay.
     pub fn set_generation(&mut self, generation: u32) {
         raw::set_generation(&mut self.held, generation.into());
     }

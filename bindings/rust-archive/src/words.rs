@@ -1,8 +1,8 @@
 //! What the library takes and gives as words.
 use plain::{Broadcast, Exception};
 
-/// The four words by which the library knows an exception. Each part fits: the library refuses an immediate of more than
-/// 16 bits, a status of more than 8, and a `write` that is neither 0 nor 1.
+/// The four words by which the library knows an exception. Each part fits: the library refuses an immediate of more
+/// than 16 bits, a status of more than 8, and a `write` that is neither 0 nor 1.
 pub fn of_exception(exception: &Exception) -> [u64; 4] {
     match *exception {
         Exception::Undefined => [0, 0, 0, 0],

@@ -85,8 +85,9 @@ impl Stop {
         }
     }
 
-    /// By the number ([`crate::number`]) that a function of the core gives where the operation is not done, or one of the
-    /// library behind `include/a72.h`; `None` for a number that stops nothing. `access` and `address` are those of a fault.
+    /// By the number ([`crate::number`]) that a function of the core gives where the operation is not done, or one of
+    /// the library behind `include/a72.h`; `None` for a number that stops nothing. `access` and `address` are those
+    /// of a fault.
     pub fn from_number(number: u64, access: Access, address: u64) -> Option<Stop> {
         if let Some(status) = status(number) {
             let status = Status(status);

@@ -20,8 +20,8 @@ impl Core {
         words
     }
 
-    /// The words, to be changed: the core becomes the one that they hold when what this gives is dropped. That the cache
-    /// holds only what the tables said is then the caller's affair.
+    /// The words, to be changed: the core becomes the one that they hold when what this gives is dropped. That the
+    /// cache holds only what the tables said is then the caller's affair.
     pub fn words_mut(&mut self) -> Edit<'_> {
         let words = self.words();
         Edit { core: self, words }
@@ -33,7 +33,8 @@ impl Core {
     }
 }
 
-/// The words of a core, to be changed ([`Core::words_mut`]): the core becomes the one that they hold when this is dropped.
+/// The words of a core, to be changed ([`Core::words_mut`]): the core becomes the one that they hold when this is
+/// dropped.
 #[derive(Debug)]
 pub struct Edit<'a> {
     core: &'a mut Core,

@@ -38,7 +38,8 @@ pub struct Census {
     pub statuses: [u64; 64],
     /// Those that are mapped, by permission byte ([`Rights`]).
     pub rights: [u64; 64],
-    /// Those that are taken as they are: stage 1 is off, and below 2^44. Any other with stage 1 off is a fault of status 0x00.
+    /// Those that are taken as they are: stage 1 is off, and below 2^44. Any other with stage 1 off is a fault of
+    /// status 0x00.
     pub flat: u64,
 }
 

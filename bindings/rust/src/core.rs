@@ -12,8 +12,8 @@ use crate::stage1::{cpu, saved};
 use crate::system_operation::SystemOperation;
 use core::fmt::{self, Debug, Formatter};
 
-/// One core: its registers, its cache of translations and their counters, some 41 KB. Nothing of it can be written past
-/// a method, so that no write skips what the cache has to forget.
+/// One core: its registers, its cache of translations and their counters, some 41 KB. Nothing of it can be written
+/// past a method, so that no write skips what the cache has to forget.
 #[derive(Clone, PartialEq, Eq)]
 pub struct Core {
     pub(crate) core: cpu::Core,
@@ -55,8 +55,8 @@ impl Core {
         }
     }
 
-    /// Become the core of these words, as [`Self::save`] gave them, or any others: of a word that is larger than its part
-    /// some bits count.
+    /// Become the core of these words, as [`Self::save`] gave them, or any others: of a word that is larger than its
+    /// part some bits count.
     pub fn restore(&mut self, words: &State) {
         saved::restore::restore(&mut self.core, words);
     }
@@ -71,8 +71,8 @@ impl Core {
         saved::save::word(&self.core, place)
     }
 
-    /// The physical address of `va` for an access of this kind at the present level. With stage 1 off: `va` without its tag
-    /// where TBI drops that, and from 2^44 on a fault of status 0x00.
+    /// The physical address of `va` for an access of this kind at the present level. With stage 1 off: `va` without
+    /// its tag where TBI drops that, and from 2^44 on a fault of status 0x00.
     #[inline(always)]
     pub fn translate(&mut self, ram: &Ram, va: u64, access: Access) -> Result<u64, Stop> {
         match hint::served(&self.core, va, access as u64, ram.base, ram.bytes.len() as u64) {
@@ -94,23 +94,8 @@ impl Core {
     /// Where a data read of `va` would go; `None` where it would fault.
     #[inline(always)]
     pub fn data_pa(&mut self, ram: &Ram, va: u64) -> Result<Option<u64>, Stop> {
-        match hint::served(
-            &self.core,
-            va,
-            Access::Read as u64,
-            ram.base,
-            ram.bytes.len() as u64,
-        ) {
-            Some(pa) => Ok(Some(pa)),
-            None => self.data_pa_past_hint(ram, va),
-        }
-    }
-
-    // The same of `quick::translation::data_pa`.
-    #[inline(never)]
-    fn data_pa_past_hint(&mut self, ram: &Ram, va: u64) -> Result<Option<u64>, Stop> {
         let mut pa = 0;
-        match translation::data_rest(&mut self.core, va, &mut pa, ram.base, ram.bytes) {
+        match translation::data_pa(&mut self.core, va, &mut pa, ram.base, ram.bytes) {
             DONE => Ok(Some(pa)),
             FAULT.. => Ok(None),
             n => Err(Stop::of(n, Access::Read, va)),
@@ -231,8 +216,8 @@ impl Core {
         done(settings::general(&mut self.core, number, value))
     }
 
-    /// Take an exception: it is routed by SCR_EL3 and HCR_EL2; ELR, SPSR, ESR and FAR are written, the level and the PC
-    /// are those of the vector.
+    /// Take an exception: it is routed by SCR_EL3 and HCR_EL2; ELR, SPSR, ESR and FAR are written, the level and the
+    /// PC are those of the vector.
     pub fn take(&mut self, exception: &Exception) -> Result<(), Stop> {
         done(settings::abort(&mut self.core, exception.known()))
     }

@@ -1,10 +1,11 @@
 //! Stage 1 address translation of the Cortex-A72: the VMSAv8-64 table walk, its cache (TLB), TLBI, AT, loads, stores
 //! and fetches over one or two pages, exception entry, as pimu does them, and a census of how pages are mapped.
 //!
-//! The module [`stage1`] is the text of crates in Rattle, Rust with contracts, in which every function is proved to meet
-//! its contract; the contracts are taken away. The rest of this crate gives it types and names. What rustc makes of it is
-//! run beside pimu's own Rust and beside the library that was proved and compiled as one, operation by operation: that is
-//! tested, and not proved. No unsafe code, no dependency, no allocation but for a core's words in boxes (feature `std`).
+//! The module [`stage1`] is the text of crates in Rattle, Rust with contracts, in which every function is proved to
+//! meet its contract; the contracts are taken away. The rest of this crate gives it types and names. What rustc makes
+//! of it is run beside pimu's own Rust and beside the library that was proved and compiled as one, operation by
+//! operation: that is tested, and not proved. No unsafe code, no dependency, no allocation but for a core's words in
+//! boxes (feature `std`).
 //!
 //! [`embedding`] shows an emulator's use: devices, two cores, faults that the guest takes.
 //!

@@ -4,8 +4,8 @@ use crate::core::Core;
 use crate::operation::{Status, Width};
 use crate::ram::Ram;
 
-/// All that answers at physical addresses: one window of RAM, in which tables are walked and most accesses end, and whatever
-/// else there is.
+/// All that answers at physical addresses: one window of RAM, in which tables are walked and most accesses end, and
+/// whatever else there is.
 pub trait Memory {
     /// The window of RAM.
     fn ram(&mut self) -> Ram<'_>;
@@ -37,8 +37,8 @@ impl Memory for Ram<'_> {
 const EXTERNAL: Status = Status(0x10);
 
 impl Core {
-    /// The physical address of an access that was translated and lies outside RAM, for a device to answer: one of its own
-    /// page. An access over two pages of which a byte lies outside stays an abort.
+    /// The physical address of an access that was translated and lies outside RAM, for a device to answer: one of its
+    /// own page. An access over two pages of which a byte lies outside stays an abort.
     #[cold]
     fn outside(&self, stop: Stop, va: u64, width: Width) -> Result<u64, Stop> {
         let one_page = va % 4096 + width as u64 <= 4096;

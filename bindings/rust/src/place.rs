@@ -1,6 +1,6 @@
-//! Where each part of a core stands among its saved words. A place never moves: new words are appended. `include/a72.h` has
-//! the same table, and `tests/places.sh` compares the two with the library's own. Words 70 and 71 hold nothing: 0 is saved
-//! there, and they are not read. The totals of hits and walks are the sums over the levels.
+//! Where each part of a core stands among its saved words. A place never moves: new words are appended.
+//! `include/a72.h` has the same table, and `tests/places.sh` compares the two with the library's own. Words 70 and 71
+//! hold nothing: 0 is saved there, and they are not read. The totals of hits and walks are the sums over the levels.
 
 /// How many words a core is saved as.
 pub const WORDS: usize = 5213;

@@ -52,7 +52,8 @@ impl SystemOperation {
     }
 }
 
-/// Operations that take no register, as constants, and those that take one, as functions of its number; and the table of all.
+/// Operations that take no register, as constants, and those that take one, as functions of its number; and the table
+/// of all.
 macro_rules! operations {
     ($($constant:ident, $bare:literal: $a:literal $b:literal $c:literal $d:literal;)* =>
         $($function:ident, $name:literal: $op1:literal $crn:literal $crm:literal $op2:literal;)*) => {

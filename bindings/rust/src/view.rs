@@ -270,8 +270,8 @@ impl Core {
         self.core.tlb.generation
     }
 
-    /// Set the cache's generation, as if many flushes had gone by: the entries that are live stay live, all others become
-    /// blank, and the hints stay.
+    /// Set the cache's generation, as if many flushes had gone by: the entries that are live stay live, all others
+    /// become blank, and the hints stay.
     pub fn set_generation(&mut self, generation: u32) {
         put::generation(&mut self.core, generation.into());
     }

@@ -34,8 +34,8 @@ pub struct Mapping {
 }
 
 impl Core {
-    /// The walk of `va` in the regime of the present level, by registers and RAM as they are: the cache is neither asked nor
-    /// filled, nothing is counted, and rights are shown, not judged.
+    /// The walk of `va` in the regime of the present level, by registers and RAM as they are: the cache is neither
+    /// asked nor filled, nothing is counted, and rights are shown, not judged.
     pub fn walk(&self, ram: &Ram, va: u64) -> Result<Walk, Stop> {
         let level = self.core.privilege.level;
         if let Err(missed) = check::with_ram(level, ram.base, ram.bytes.len() as u64) {

@@ -1,5 +1,5 @@
-//! The core as plain Rust, the crate `bindings/rust`: what rustc makes of the text that was proved. It runs by its methods;
-//! what it holds is what it saves, after every operation, and what it shall hold it is restored from.
+//! The core as plain Rust, the crate `bindings/rust`: what rustc makes of the text that was proved. It runs by its
+//! methods; what it holds is what it saves, after every operation, and what it shall hold it is restored from.
 use crate::census::{COUNTS, FLAT, RIGHTS, STATUS};
 use crate::ffi::{boxed, poke, state_of, Words, RETIRED};
 use crate::op::{Ans, Op};
@@ -83,7 +83,8 @@ fn step(core: &mut a72::Core, op: &Op, ram: &mut a72::Ram) -> Result<Ans, Stop> 
         Op::Fetch(va) => core.fetch(ram, va).map(|v| Ans::Val(v.into())),
         Op::Sys(op1, crn, crm, op2, rt) => {
             let [op1, crn, crm, op2, rt] = [op1, crn, crm, op2, rt].map(u64::from);
-            core.system(ram, SystemOperation::new(op1, crn, crm, op2, rt)).map(done)
+            core.system(ram, SystemOperation::new(op1, crn, crm, op2, rt))
+                .map(done)
         }
         Op::Reg(key, v) => core.write_register(Key::from(u64::from(key)), v).map(done),
         Op::Level(level) => core.set_level(Level::from(u64::from(level))).map(done),
@@ -96,6 +97,11 @@ fn step(core: &mut a72::Core, op: &Op, ram: &mut a72::Ram) -> Result<Ans, Stop> 
 }
 
 impl PlainCore {
+    /// The crate's own core.
+    pub fn core(&self) -> &a72::Core {
+        &self.core
+    }
+
     /// All that it holds, as words.
     fn words(&self) -> Words {
         let mut words = self.core.words();

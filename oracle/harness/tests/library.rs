@@ -26,7 +26,7 @@ fn both_sides_of_every_case_agree() {
         let mut pair = Pair::new(&case);
         for n in 1..case.calls(32) {
             assert_eq!(pair.run(Side::Rust, n), pair.run(Side::Ours, n), "{}", case.name);
-            assert!(pair.agree(), "{}", case.name);
+            assert!(pair.agree(Side::Ours), "{}", case.name);
         }
     }
 }

@@ -78,7 +78,8 @@ fn checked(pair: &mut Pair, runs: usize, n: usize) -> Option<f64> {
     timed.then(|| least.a_call(n))
 }
 
-/// Time one case by `runs` runs of the Rust and of another side in turn. The error says where answers, states or RAM differed.
+/// Time one case by `runs` runs of the Rust and of another side in turn. The error says where answers, states or RAM
+/// differed.
 pub fn time(case: &Case, other: Side, runs: usize) -> Result<Times, String> {
     let mut pair = Pair::new(case);
     let differ = |what| Err(format!("{}: {what} differ", case.name));

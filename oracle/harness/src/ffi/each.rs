@@ -176,7 +176,7 @@ mod tests {
     use crate::ffi::{saved, CCore};
     use crate::generate::{trace, Rng, Style};
     use crate::rust::RustCore;
-    use crate::{feed, place, Core};
+    use crate::{domain, feed, place, Core};
     use pimu::aarch64::access::{mmu, Inval};
     use pimu::aarch64::sysreg::key;
 
@@ -186,7 +186,7 @@ mod tests {
         let mut rams = [Ram::sealable(), Ram::default()];
         for line in trace(seed, n, Style::Wild) {
             feed(&line, &mut core, &mut rams[0]);
-            feed(&line, &mut rust, &mut rams[1]);
+            domain::feed(&line, &mut rust, &mut rams[1]);
         }
         assert!(core.holds(&rust));
         (core, rust)

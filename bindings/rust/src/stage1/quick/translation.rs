@@ -45,7 +45,7 @@ fn by_walk<P: Purpose, const TELLS: bool>(
 }
 
 /// With stage 1 off, by an entry, or by a walk: each out of line of what comes before it, with six words to hand on.
-#[inline(never)]
+#[inline(always)]
 fn past_hint<P: Purpose, const TELLS: bool>(
     core: &mut Core,
     va: u64,
@@ -108,7 +108,7 @@ fn rest<P: Purpose, const TELLS: bool>(
 }
 
 #[inline(never)]
-pub(crate) fn data_rest(core: &mut Core, va: u64, ans: &mut u64, base: u64, ram: &[u8]) -> u64 {
+fn data_rest(core: &mut Core, va: u64, ans: &mut u64, base: u64, ram: &[u8]) -> u64 {
     rest::<Reading, false>(core, va, ans, base, ram)
 }
 
@@ -130,7 +130,7 @@ fn address<P: Purpose>(core: &mut Core, va: u64, ans: &mut u64, base: u64, ram: 
 }
 
 /// By kind. Its arguments are those of the call in their order, so that it is jumped to.
-#[inline(never)]
+#[inline(always)]
 pub(crate) fn kind_asked(core: &mut Core, va: u64, kind: u64, ans: &mut u64, base: u64, ram: &[u8]) -> u64 {
     if kind < 2 {
         if kind == 1 {
