@@ -5,7 +5,7 @@ use super::record::Recording;
 use super::shape::{told, Shape};
 use super::{data_slot, Kind, FSC_EXTERNAL};
 use crate::aarch64::sysreg::SysRegs;
-use a72::{registers, Broadcast, Core, Counters, Fault, Level, Ram, Status, Stop, SystemOperation};
+use a72::{registers, Broadcast, Core, Counters, Level, Ram, Status, Stop, SystemOperation};
 
 /// What a `TLBI` drops.
 #[derive(Clone, Copy, Debug, PartialEq, Eq)]
@@ -40,6 +40,14 @@ enum Asked {
     Retag,
     /// [`Tlb::flush`]: all drops.
     Flush,
+}
+
+/// The status of a fault. Nothing else stops a translation: the level is one of four, and RAM ends below 2^64.
+fn status(stop: Stop) -> u8 {
+    match stop {
+        Stop::Fault(fault) => fault.status.0,
+        stop => panic!("a translation was {stop}"),
+    }
 }
 
 /// The proved core, and what pimu's other files read beside it.
@@ -255,42 +263,37 @@ impl Tlb {
 
     /// One translation by the core, where no table is to be read.
     #[inline]
-    pub(super) fn at_hand(&mut self, va: u64, kind: Kind) -> Option<Result<u64, Stop>> {
+    pub(super) fn at_hand(&mut self, va: u64, kind: Kind) -> Option<Result<u64, u8>> {
         let answer = self.core.translate_at_hand(va, kind.into())?;
         self.hits = self.core.counters().hits();
-        Some(answer)
+        Some(answer.map_err(|Status(fsc)| fsc))
     }
 
     /// The same of a fetch, and the core's hint.
     #[inline]
-    pub(super) fn fetch_at_hand(&mut self, va: u64) -> Option<Result<u64, Stop>> {
+    pub(super) fn fetch_at_hand(&mut self, va: u64) -> Option<Result<u64, u8>> {
         let answer = self.core.fetch_at_hand(va)?;
         self.hits = self.core.counters().hits();
-        Some(answer)
+        Some(answer.map_err(|Status(fsc)| fsc))
     }
 
     /// One translation by the core.
     #[inline]
-    pub(super) fn translate(&mut self, ram: &Ram, va: u64, kind: Kind) -> Result<u64, Stop> {
+    pub(super) fn translate(&mut self, ram: &Ram, va: u64, kind: Kind) -> Result<u64, u8> {
         let answer = self.core.translate(ram, va, kind.into());
         self.count();
-        answer
+        answer.map_err(status)
     }
 
     /// Where a fetch by the core goes, which then has a hint of it, whether RAM holds the instruction or the bus has it
     /// elsewhere.
-    pub(super) fn fetch(&mut self, ram: &Ram, va: u64) -> Result<u64, Stop> {
+    pub(super) fn fetch(&mut self, ram: &Ram, va: u64) -> Result<u64, u8> {
         let answer = self.core.fetch(ram, va);
         self.count();
-        match answer {
-            Err(Stop::Fault(Fault {
-                status: Status(FSC_EXTERNAL),
-                ..
-            }))
-            | Ok(_) => {}
-            Err(stop) => return Err(stop),
+        match answer.map_err(status) {
+            Ok(_) | Err(FSC_EXTERNAL) => Ok(self.core.fetch_hint().map_or(0, |hint| hint.pa) | (va & 0xFFF)),
+            Err(fsc) => Err(fsc),
         }
-        Ok(self.core.fetch_hint().map_or(0, |hint| hint.pa) | (va & 0xFFF))
     }
 
     /// `AT` by the core: what it leaves in `PAR_EL1`.
@@ -308,12 +311,6 @@ impl Tlb {
         self.recording
             .line(format_args!("sys {op1:x} {crn:x} {crm:x} {op2:x} {rt:x}"));
         self.core.register(registers::PAR_EL1).unwrap_or(0)
-    }
-
-    /// Whether hints are asked past the core.
-    #[inline(always)]
-    pub(super) fn asks_hints(&self) -> bool {
-        self.hints
     }
 
     /// Whether accesses are recorded.

@@ -5,7 +5,7 @@ use crate::raw;
 use crate::words::of_exception;
 use plain::number::{DONE, FAULT};
 use plain::registers::Key;
-use plain::{Access, Census, Exception, Level, Ram, Stop, SystemOperation, Width, WORDS};
+use plain::{Access, Census, Exception, Level, Ram, Status, Stop, SystemOperation, Width, WORDS};
 use std::fmt::{self, Debug, Formatter};
 
 /// One core: its registers, its cache of translations and their counters, in 41,744 bytes of its own.
@@ -128,12 +128,12 @@ impl Core {
     }
 
     /// The library has no call for what is at hand: `None`, and [`Core::translate`] does it all.
-    pub fn translate_at_hand(&mut self, _va: u64, _access: Access) -> Option<Result<u64, Stop>> {
+    pub fn translate_at_hand(&mut self, _va: u64, _access: Access) -> Option<Result<u64, Status>> {
         None
     }
 
     /// The same of [`Core::fetch`].
-    pub fn fetch_at_hand(&mut self, _va: u64) -> Option<Result<u64, Stop>> {
+    pub fn fetch_at_hand(&mut self, _va: u64) -> Option<Result<u64, Status>> {
         None
     }
 

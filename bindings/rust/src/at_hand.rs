@@ -1,64 +1,55 @@
 //! Translations that need no RAM: for an emulator whose RAM is not at hand, and is asked for where tables are walked.
-use crate::answer::{Check, Stop};
 use crate::core::Core;
 use crate::operation::{Access, Status};
-use crate::stage1::fault::Fault;
 use crate::stage1::tlb::access::Kind;
 use crate::stage1::tlb::hint::FetchHint;
 
 impl Core {
-    /// [`Core::translate`] where nothing is walked: by a hint, with stage 1 off, or by an entry of the cache. `None` where
-    /// the tables are to be walked: nothing was changed, and `translate` does it all.
+    /// [`Core::translate`] where nothing is walked: by a hint, with stage 1 off, or by an entry of the cache; of a fault the
+    /// status. `None` where the tables are to be walked, or the level is above 3: nothing was changed, and `translate` does
+    /// it all.
     #[inline]
-    pub fn translate_at_hand(&mut self, va: u64, access: Access) -> Option<Result<u64, Stop>> {
-        if self.core.privilege.level > 3 {
-            return Some(Err(Stop::Refused(Check::Level)));
-        }
+    pub fn translate_at_hand(&mut self, va: u64, access: Access) -> Option<Result<u64, Status>> {
         let kind = match access {
             Access::Read => Kind::Read,
             Access::Write => Kind::Write,
             Access::Fetch => Kind::Fetch,
         };
-        match self.core.tlb.by_hint(self.core.privilege, va, kind) {
-            Some(pa) => Some(Ok(pa)),
-            None => self.past_hint(va, kind, access),
+        let privilege = self.core.privilege;
+        match self.core.tlb.by_hint(privilege, va, kind) {
+            Some(pa) if privilege.level <= 3 => Some(Ok(pa)),
+            _ => self.past_hint(va, kind),
         }
     }
 
     /// The physical address that [`Core::fetch`] reads, where nothing is walked; the fetch hint becomes its page. `None` as
     /// for [`Core::translate_at_hand`].
     #[inline]
-    pub fn fetch_at_hand(&mut self, va: u64) -> Option<Result<u64, Stop>> {
-        if self.core.privilege.level > 3 {
-            return Some(Err(Stop::Refused(Check::Level)));
-        }
-        let answer = match self.core.tlb.by_fetch_hint(self.core.privilege.level, va) {
-            Some(pa) => Some(Ok(pa)),
-            None => self.past_hint(va, Kind::Fetch, Access::Fetch),
+    pub fn fetch_at_hand(&mut self, va: u64) -> Option<Result<u64, Status>> {
+        let level = self.core.privilege.level;
+        let answer = match self.core.tlb.by_fetch_hint(level, va) {
+            Some(pa) if level <= 3 => Some(Ok(pa)),
+            _ => self.past_hint(va, Kind::Fetch),
         };
         if let Some(Ok(pa)) = answer {
-            self.core.tlb.fetch = Some(FetchHint::new(va, self.core.privilege.level, pa));
+            self.core.tlb.fetch = Some(FetchHint::new(va, level, pa));
         }
         answer
     }
 
-    #[inline]
-    fn past_hint(&mut self, va: u64, kind: Kind, access: Access) -> Option<Result<u64, Stop>> {
-        let fault = |Fault { fsc }: Fault| {
-            Stop::Fault(crate::Fault {
-                access,
-                address: va,
-                status: Status(fsc),
-            })
-        };
+    #[inline(always)]
+    fn past_hint(&mut self, va: u64, kind: Kind) -> Option<Result<u64, Status>> {
+        if self.core.privilege.level > 3 {
+            return None;
+        }
         let answer = self.core.at_hand(0, &[], va, kind)?;
-        Some(answer.map_err(fault))
+        Some(answer.map_err(|fault| Status(fault.fsc)))
     }
 }
 
 #[cfg(all(test, feature = "std"))]
 mod tests {
-    use crate::{Access, Core, Ram, SystemOperation, Width, registers};
+    use crate::{Access, Core, Ram, Stop, SystemOperation, Width, registers};
 
     /// One core is asked at hand first, the other never: all that they hold is the same.
     #[test]
@@ -82,7 +73,13 @@ mod tests {
             let va = [0x1000, 0x2000, 0x3000, 1 << 44][(step * 7 % 4) as usize] + step % 16 * 8;
             let access = [Access::Read, Access::Write, Access::Fetch][(step % 3) as usize];
             match core.translate_at_hand(va, access) {
-                Some(answer) => assert_eq!(answer, other.translate(&ram, va, access)),
+                Some(answer) => {
+                    let whole = other.translate(&ram, va, access);
+                    assert_eq!(answer.ok(), whole.ok());
+                    if let (Err(status), Err(Stop::Fault(fault))) = (answer, whole) {
+                        assert_eq!(status, fault.status);
+                    }
+                }
                 None => assert_eq!(
                     core.translate(&ram, va, access),
                     other.translate(&ram, va, access)

@@ -134,7 +134,7 @@ impl<B: Side> Pair<B> {
         same("what reached the bus", &self.bus_a.log, &self.bus_b.log)?;
         if b.settled() {
             same("the fetch hint", &a.fetch_hint(), &b.fetch_hint())?;
-            if counts != self.counts[n] || self.steps % LOOK == 0 {
+            if counts != self.counts[n] || self.steps.is_multiple_of(LOOK) {
                 same_cache(a, b)?;
                 self.counts[n] = counts;
             }
@@ -168,7 +168,7 @@ impl<B: Side> Pair<B> {
     fn spread(&mut self, n: usize) {
         let written: Vec<Event> = self.bus_a.log.drain(..).filter(|e| e.what == 'w').collect();
         self.bus_b.log.clear();
-        let (what_a, what_b) = match self.lazy && self.steps % 5 != 0 {
+        let (what_a, what_b) = match self.lazy && !self.steps.is_multiple_of(5) {
             true => (None, None),
             false => (self.a[n].take_broadcast(), self.b[n].take_broadcast()),
         };

@@ -92,13 +92,13 @@ fn one(name: &'static str, rounds: usize, invalidate: Option<[u32; 4]>) -> Guest
         // The sum of what is heard, in which a wrong tone shows.
         p.li(4, 0);
         let mut sum = 0u64;
-        for voice in 0..VOICES {
+        for (voice, first) in first.iter_mut().enumerate() {
             let Some((frame, note)) = i.held[voice] else {
                 continue;
             };
             p.li(0, page(voice))
                 .put(&[ldr(1, 0, 0), lsl(4, 4, 3), of_two(0xCA, 4, 4, 1)]);
-            let stale = *first[voice].get_or_insert(frame);
+            let stale = *first.get_or_insert(frame);
             sum = sum << 3
                 ^ if invalidate.is_some() {
                     note
@@ -106,7 +106,7 @@ fn one(name: &'static str, rounds: usize, invalidate: Option<[u32; 4]>) -> Guest
                     i.notes[&stale]
                 };
         }
-        heard = heard * 31 ^ sum;
+        heard = (heard * 31) ^ sum;
         p.li(5, 31)
             .put(&[0x9B00_7C00 | 5 << 16 | 6 << 5 | 6, of_two(0xCA, 6, 6, 4)]); // MUL, EOR
     }
@@ -134,7 +134,7 @@ fn two(name: &'static str, rounds: usize) -> Guest {
         let wait = p.here();
         p.put(&[ldr(1, 0, 0), cmp(1, 2)]);
         p.put(&[0x5400_0001 | (((wait as i64 - p.here() as i64) / 4) as u32 & 0x7FFFF) << 5]);
-        known = known * 31 ^ note;
+        known = (known * 31) ^ note;
     }
     p.label("end").go("end");
     let mut l = Asm::new(CODE + 0xC000);
