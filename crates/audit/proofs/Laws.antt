@@ -12,7 +12,6 @@ use Rattle.walk.proofs.WalkBounds.{leaf-bounds}
 use Rattle.tlb.specs.Access.{judged, user_of}
 use Rattle.tlb.proofs.Cells.{judged-is}
 use Rattle.tlb.specs.Entry.{entry_for}
-use Rattle.tlb.specs.Lists.{Each, done, more}
 use Rattle.tlb.specs.Model.{Access, as_user, need, judge}
 use Rattle.tlb.specs.declared.{access.Kind.Kind, access.Privilege.Privilege, Inval.Inval}
 use Rattle.system.specs.Tlbi.{tlbi_of}

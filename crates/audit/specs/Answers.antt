@@ -1,5 +1,5 @@
 -- The translations of a call as the audit lists them, and what it says of each.
-use Rattle.std.specs.Prelude.{List, [], ◌∷◌, ℕ, Option, Some, None}
+use Rattle.std.specs.Prelude.{List, [], ◌∷◌, Option, Some, None}
 use Rattle.tlb.specs.Asks as Asks
 use Rattle.tlb.specs.Asks.{Given, kind_of, address_of}
 use Rattle.tlb.specs.Answers.{Answer}
