@@ -84,7 +84,7 @@ impl Core {
 
     /// The translations of an access, before a byte moves: one, or two where it crosses a page. The first one's effects
     /// remain where the second faults.
-    #[inline]
+    #[inline(always)]
     pub fn translate_access(
         &mut self,
         base: u64,
