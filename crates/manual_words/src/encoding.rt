@@ -1,5 +1,5 @@
 //! The encodings of AT, DC, IC and TLBI.
-ghost use Rattle.std.specs.Prelude.{◌≡◌, IfSome};
+ghost use Rattle.std.specs.Prelude.{◌≡◌};
 ghost use Rattle.manual_words.specs.Encodings.{at_fields, cache_fields, fields_in, fields_of};
 ghost use Rattle.manual_words.specs.Encodings.{takes_register, tlbi_fields, tlbi_takes_register};
 
@@ -153,9 +153,7 @@ impl Operation {
     }
 
     /// The operation that an encoding names.
-    pub fn encoded_as(encoding: &Encoding) -> Option<Operation>
-        ensures { IfSome result (λ operation. fields_of operation ≡ fields_in encoding.now) }
-    {
+    pub fn encoded_as(encoding: &Encoding) -> Option<Operation> {
         let fields = encoded(encoding.op1, encoding.crn, encoding.crm, encoding.op2);
         for operation in OPERATIONS {
             if operation.fields() == fields {
