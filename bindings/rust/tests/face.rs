@@ -154,10 +154,7 @@ fn an_access_that_reaches_into_ram_stays_an_abort() {
     // With stage 1 off an access runs on over a page's end: into RAM from below it.
     core.set_level(Level::EL3).unwrap();
     assert_eq!(
-        status(
-            core.load_from(&mut everywhere, BASE - 4, Width::Double)
-                .map(drop)
-        ),
+        status(core.load_from(&mut everywhere, BASE - 4, Width::Double).map(drop)),
         (BASE - 4, 0x10)
     );
 }
