@@ -318,22 +318,27 @@ part-judged base len va n pa i g h out = go (part base len va n pa g) refl
         let last : o.index < 0 + in_page va = (lowest base len (half base len va n pa g) 0 (in_page va) o.index o.pa e).last in
         (o.index, omega arith, (o.pa, e))
 
--- two data aborts that are one report one address
-address_of : Stop → ℕ
-address_of s = unwrap_or (stop_address s) 0
+-- what a data abort reports
+loaded_at : (a : ℕ) (w : Bool) (f : Fault) (s : Stop) → ◌≡◌ {A = LoadAnswer} (Err (data_abort a w f)) (Err s) → stop_address s ≡ Some a
+loaded_at a w f s e = let t : data_abort a w f ≡ s = cc in ap stop_address (sym t)
 
-same-address : (a b : ℕ) (v w : Bool) (f g : Fault) → ◌≡◌ {A = LoadAnswer} (Err (data_abort a v f)) (Err (data_abort b w g)) → a ≡ b
-unfolding address_of
-same-address a b v w f g e = let s : data_abort a v f ≡ data_abort b w g = cc in ap address_of s
+stored_at : (a : ℕ) (w : Bool) (f : Fault) (s : Stop) → ◌≡◌ {A = StoreAnswer} (Err (data_abort a w f)) (Err s) → stop_address s ≡ Some a
+stored_at a w f s e = let t : data_abort a w f ≡ s = cc in ap stop_address (sym t)
 
-same-store-address : (a b : ℕ) (v w : Bool) (f g : Fault) → ◌≡◌ {A = StoreAnswer} (Err (data_abort a v f)) (Err (data_abort b w g)) → a ≡ b
-unfolding address_of
-same-store-address a b v w f g e = let s : data_abort a v f ≡ data_abort b w g = cc in ap address_of s
+differ : (va k : ℕ) (x y : Stop) → va < 2 ^ 64 → k < in_page va → stop_address x ≡ Some (wrap (va + k)) → stop_address y ≡ Some (next_page va)
+    → stop_address x ≢ stop_address y
+differ va k x y wide below now before e = apart va k wide below (ap (λ (o : Option ℕ). unwrap_or o 0) (sym now ∙ e ∙ before))
 
 pub these-change : TheseChange
 unfolding load_end store_end
-these-change base ram va n pa i g last abort wide h out =
+these-change base ram va n pa i g last abort x y wide h out =
     let (k, below, (q, judged)) = part-judged base (length ram) va n pa i g h out in (
-      λ e. apart va k wide below (same-address _ _ false false _ _ (sym (ap (λ (d : Verdict). Err (failed_access d (second_fault_at (next_page va) pa g) va false)) judged) ∙ e)),
-      λ e. apart va k wide below (same-store-address _ _ true true _ _ (sym (ap (λ (d : Verdict). Err (failed_access d (second_fault_at (next_page va) pa g) va true)) judged) ∙ e)),
+      λ now before.
+          differ va k x y wide below
+          (loaded_at _ false _ x (sym (ap (λ (d : Verdict). Err (failed_access d (second_fault_at (next_page va) pa g) va false)) judged) ∙ now))
+          (loaded_at _ false _ y before),
+      λ now before.
+          differ va k x y wide below
+          (stored_at _ true _ x (sym (ap (λ (d : Verdict). Err (failed_access d (second_fault_at (next_page va) pa g) va true)) judged) ∙ now))
+          (stored_at _ true _ y before),
     )

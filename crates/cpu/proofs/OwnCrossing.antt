@@ -1,6 +1,6 @@
 -- The lowest failing byte decides, by each byte's own address.
 use Rattle.std.specs.Prelude.{if◌then◌else◌, nat_lt, Option, Ok, Err, unwrap_or}
-use Rattle.std.proofs.Common.{◌≡◌, ℕ, ◌-◌, ◌/◌, ◌<◌, ◌≤◌, Bool, true, false, List, length, sym, refl, ap, ◌∙◌, arith, ltb-true, ltb-false}
+use Rattle.std.proofs.Common.{◌≡◌, ℕ, ◌+◌, ◌-◌, ◌/◌, ◌%◌, ◌<◌, ◌≤◌, Bool, true, false, List, length, sym, refl, ap, ◌∙◌, arith, ltb-true, ltb-false, lt-ltb}
 use Rattle.word.specs.Ram.{word_at}
 use Rattle.fault.specs.declared.Fault.{Fault}
 use Rattle.tlb.specs.Answers.{Answer}
@@ -14,7 +14,7 @@ use Rattle.cpu.specs.Translations.{located_of, one_page, both_pages}
 use Rattle.cpu.specs.Memory.{located_now, read_of, write_of}
 use Rattle.cpu.specs.OpLaws.{on_now}
 use Rattle.cpu.specs.OwnAddress.{Ready, byte_va, own_answer}
-use Rattle.cpu.specs.Crossing.{fails_at, lies_at, byte_fails, byte_lies, LowestFails, met_by, found_by, own_fails, own_lies, LowestOwn}
+use Rattle.cpu.specs.Crossing.{fails_at, lies_at, byte_fails, byte_lies, LowestFails, met_by, found_by, own_fails, own_lies, Crosses, LowestOwn}
 use Rattle.cpu.specs.Crossing.{LoadDecided, StoreDecided, NoneDecides}
 use Rattle.cpu.specs.declared.Core.{Core}
 use Rattle.cpu.proofs.PlaceLaws.{same-page}
@@ -22,9 +22,12 @@ use Rattle.cpu.proofs.PageLaws.{answer_at, step-page}
 use Rattle.cpu.proofs.OwnAddress.{first, second, first-well, own_first, own-next, own-here, own-there, next-differs, next-page}
 use Rattle.cpu.proofs.Crossing.{load-fails, store-fails, none-aborts, aborts-at}
 
-near : (on : Bool) (va n : ℕ) → crosses on va n ≡ true → in_page va < n
-near true va n e = ltb-true _ _ e
-near false va n e = let z : ◌≡◌ {A = ℕ} 0 1 = ap (λ (x : Bool). if x then 1 else 0) e in absurd (omega arith)
+near : (c : Core) (va n : ℕ) → Crosses c va n → in_page va < n
+near c va n x = let h : 4096 < va % 4096 + n = x.1 in omega arith
+
+-- it takes two pages
+taken : (c : Core) (va n : ℕ) → Crosses c va n → crosses (on_now c) va n ≡ true
+taken c va n x = rw (x.0, lt-ltb (in_page va) n (near c va n x)) refl
 
 module _ (c : Core) (base : ℕ) (ram : List ℕ) (va n : ℕ) (kind : Kind) (ready : Ready c base ram va n kind) where
   abbrev pub a : Answer
@@ -99,8 +102,8 @@ module _ (c : Core) (base : ℕ) (ram : List ℕ) (va n : ℕ) (kind : Kind) (re
 pub load-decided : LoadDecided
 unfolding read_of after_access
 load-decided c base ram va n i f ready x l =
-    let cross = near (on_now c) va n x in
-    let p = placed-both c base ram va n Read ready x in
+    let cross = near c va n x in
+    let p = placed-both c base ram va n Read ready (taken c va n x) in
     let low = lowest-fails c base ram va n Read ready i f l in (
       ap (λ (q : Placed). (load_end q c.last_pa c.abort_pa base ram va n).answer) p ∙ load-fails base ram va n _ _ _ _ i f ready.address cross low,
       ap (λ (q : Placed). (load_end q c.last_pa c.abort_pa base ram va n).abort_pa) p
@@ -111,8 +114,8 @@ load-decided c base ram va n i f ready x l =
 pub store-decided : StoreDecided
 unfolding write_of after_access
 store-decided c base ram va n i f ready x l =
-    let cross = near (on_now c) va n x in
-    let p = placed-both c base ram va n Write ready x in
+    let cross = near c va n x in
+    let p = placed-both c base ram va n Write ready (taken c va n x) in
     let low = lowest-fails c base ram va n Write ready i f l in (
       ap (λ (q : Placed). (store_end q c.abort_pa base ram va n).answer) p ∙ store-fails base ram va n _ _ _ i f ready.address cross low,
       ap (λ (q : Placed). (store_end q c.abort_pa base ram va n).abort_pa) p
@@ -124,11 +127,11 @@ pub none-decides : NoneDecides
 unfolding read_of write_of after_access
 none-decides c base ram va n x = (
   λ ready l.
-      let none = none-aborts base ram va n (a c base ram va n Read ready) (b c base ram va n Read ready) c.last_pa c.abort_pa (near (on_now c) va n x)
+      let none = none-aborts base ram va n (a c base ram va n Read ready) (b c base ram va n Read ready) c.last_pa c.abort_pa (near c va n x)
       (λ i h. sym (each-byte c base ram va n Read ready i h).0 ∙ l i h) in
-      (none.0.0, ap (λ (q : Placed). (load_end q c.last_pa c.abort_pa base ram va n).answer) (placed-both c base ram va n Read ready x) ∙ none.0.1),
+      (none.0.0, ap (λ (q : Placed). (load_end q c.last_pa c.abort_pa base ram va n).answer) (placed-both c base ram va n Read ready (taken c va n x)) ∙ none.0.1),
   λ ready l.
-      let none = none-aborts base ram va n (a c base ram va n Write ready) (b c base ram va n Write ready) c.last_pa c.abort_pa (near (on_now c) va n x)
+      let none = none-aborts base ram va n (a c base ram va n Write ready) (b c base ram va n Write ready) c.last_pa c.abort_pa (near c va n x)
       (λ i h. sym (each-byte c base ram va n Write ready i h).0 ∙ l i h) in
-      ap (λ (q : Placed). (store_end q c.abort_pa base ram va n).answer) (placed-both c base ram va n Write ready x) ∙ none.1,
+      ap (λ (q : Placed). (store_end q c.abort_pa base ram va n).answer) (placed-both c base ram va n Write ready (taken c va n x)) ∙ none.1,
 )

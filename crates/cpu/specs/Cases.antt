@@ -256,6 +256,6 @@ CrossingCases =
     ∷ record { reply = aborts 0x7FFFFFFF false 0x05; kept = 0 ∷ 0 ∷ 1 ∷ [] }
     ∷ [])
 
--- and that store leaves the byte before the failing one
+-- and a store of ones there leaves the byte before the failing one
 abbrev pub CrossingRam : Type 0
 CrossingRam = ram_after (at 1 0x3FFFF000) 0x3FFFFFF0 (bytes_of 15 0x401) (Store 0x7FBFFFFFFE 8 0xFFFF) ≡ bytes_of 15 0x401

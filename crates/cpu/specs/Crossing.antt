@@ -1,16 +1,18 @@
 -- Of an access over two pages the lowest failing byte decides: a byte fails where its page's translation does, and where it lies outside RAM. One rule,
 -- with no case for a fault of the second page behind a byte of the first that lies outside. And what changed by it: the ends as they were before, which
 -- let a fault of the second page come first.
-use Rattle.std.specs.Prelude.{if◌then◌else◌, ◌≡◌, ℕ, ◌+◌, ◌-◌, ◌^◌, ◌<◌, ◌≢◌, true, false, List, length, nat_lt, Option, Some, None, Ok, Err, unwrap_or}
+use Rattle.std.specs.Prelude.{if◌then◌else◌, ◌≡◌, ℕ, ◌+◌, ◌-◌, ◌%◌, ◌^◌, ◌<◌, ◌≢◌, true, false, List, length, nat_lt, Option, Some, None, Ok, Err, unwrap_or}
 use Rattle.word.specs.Bits.{wrap}
 use Rattle.word.specs.Ram.{within, word_at}
 use Rattle.fault.specs.declared.Fault.{Fault}
 use Rattle.tlb.specs.Answers.{Answer}
 use Rattle.cpu.specs.Answers.{Placed}
-use Rattle.cpu.specs.Place.{in_page, crosses, placed_one, placed_both}
+use Rattle.cpu.specs.Place.{in_page, placed_one, placed_both}
 use Rattle.cpu.specs.Ends.{LoadEnd, StoreEnd, external, data_abort, load_end, store_end, store_ram_end}
 use Rattle.tlb.specs.declared.access.Kind.{Kind}
 use Rattle.tlb.specs.declared.access.Kind.TheVariants.{Read, Write}
+use Rattle.exception.specs.declared.kind.Stop.{Stop}
+use Rattle.cpu.specs.EndMeaning.{stop_address}
 use Rattle.cpu.specs.Memory.{read_of, write_of}
 use Rattle.cpu.specs.OpLaws.{on_now}
 use Rattle.cpu.specs.OwnAddress.{own_answer, Ready}
@@ -118,18 +120,18 @@ CrossingsStay =
     → (load_end (placed_both va a b) last abort base ram va n ≡ load_end_before (placed_both va a b) last abort base ram va n)
     × (store_end (placed_both va a b) abort base ram va n ≡ store_end_before (placed_both va a b) abort base ram va n)
 
--- and there it does not
+-- and there another address is reported
 abbrev pub TheseChange : Type 0
 TheseChange =
-    (base : ℕ) (ram : List ℕ) (va n pa i : ℕ) (f : Fault) (last abort : ℕ) → va < 2 ^ 64 → i < in_page va
+    (base : ℕ) (ram : List ℕ) (va n pa i : ℕ) (f : Fault) (last abort : ℕ) (x y : Stop) → va < 2 ^ 64 → i < in_page va
     → within base (length ram) 1 (wrap (pa + i)) ≡ false
-    → ((load_end (placed_both va (Ok pa) (Err f)) last abort base ram va n).answer
-    ≢ (load_end_before (placed_both va (Ok pa) (Err f)) last abort base ram va n).answer)
-    × ((store_end (placed_both va (Ok pa) (Err f)) abort base ram va n).answer
-    ≢ (store_end_before (placed_both va (Ok pa) (Err f)) abort base ram va n).answer)
+    → ((load_end (placed_both va (Ok pa) (Err f)) last abort base ram va n).answer ≡ Err x
+    → (load_end_before (placed_both va (Ok pa) (Err f)) last abort base ram va n).answer ≡ Err y → stop_address x ≢ stop_address y)
+    × ((store_end (placed_both va (Ok pa) (Err f)) abort base ram va n).answer ≡ Err x
+    → (store_end_before (placed_both va (Ok pa) (Err f)) abort base ram va n).answer ≡ Err y → stop_address x ≢ stop_address y)
 
--- OF A CORE, by each byte's own address: byte i of an access to va stands at the virtual address wrap (va + i). With this `in_page`, `placed_both` and
--- `first_part` need not be believed.
+-- OF A CORE, by each byte's own address: byte i of an access to va stands at the virtual address wrap (va + i). With this `in_page`, `crosses`, `placed_both`
+-- and `first_part` need not be believed; `own_answer`, the translation of a byte's own address, `within` and what a data abort is must be.
 
 -- what a byte meets by its own translation, and where it lies; an address is 64 bits
 abbrev pub met_by : ℕ → ℕ → Answer → Option Fault
@@ -146,6 +148,10 @@ own_fails c base ram va kind i = met_by base (length ram) (own_answer c (word_at
 abbrev pub own_lies : Core → ℕ → List ℕ → ℕ → Kind → ℕ → Option ℕ
 own_lies c base ram va kind i = found_by (own_answer c (word_at base ram 8) va kind i)
 
+-- n bytes from va on take two pages: stage 1 is on, and the last lies past the end of the page of 4096
+abbrev pub Crosses : Core → ℕ → ℕ → Type 0
+Crosses c va n = (on_now c ≡ true) × (4096 < va % 4096 + n)
+
 -- byte i is the lowest of n that fails, by f
 pub record LowestOwn (c : Core) (base : ℕ) (ram : List ℕ) (va : ℕ) (kind : Kind) (n i : ℕ) (f : Fault) : Type 0 where
   pub below : i < n
@@ -154,14 +160,14 @@ pub record LowestOwn (c : Core) (base : ℕ) (ram : List ℕ) (va : ℕ) (kind :
 
 abbrev pub LoadDecided : Type 0
 LoadDecided =
-    (c : Core) (base : ℕ) (ram : List ℕ) (va n i : ℕ) (f : Fault) → Ready c base ram va n Read → crosses (on_now c) va n ≡ true
+    (c : Core) (base : ℕ) (ram : List ℕ) (va n i : ℕ) (f : Fault) → Ready c base ram va n Read → Crosses c va n
     → LowestOwn c base ram va Read n i f
     → ((read_of c base ram va n).answer ≡ Err (data_abort (wrap (va + i)) false f))
     × ((read_of c base ram va n).core.abort_pa ≡ unwrap_or (own_lies c base ram va Read i) c.abort_pa)
 
 abbrev pub StoreDecided : Type 0
 StoreDecided =
-    (c : Core) (base : ℕ) (ram : List ℕ) (va n i : ℕ) (f : Fault) → Ready c base ram va n Write → crosses (on_now c) va n ≡ true
+    (c : Core) (base : ℕ) (ram : List ℕ) (va n i : ℕ) (f : Fault) → Ready c base ram va n Write → Crosses c va n
     → LowestOwn c base ram va Write n i f
     → ((write_of c base ram va n).answer ≡ Err (data_abort (wrap (va + i)) true f))
     × ((write_of c base ram va n).core.abort_pa ≡ unwrap_or (own_lies c base ram va Write i) c.abort_pa)
@@ -169,6 +175,6 @@ StoreDecided =
 -- where no byte fails, it does not abort
 abbrev pub NoneDecides : Type 0
 NoneDecides =
-    (c : Core) (base : ℕ) (ram : List ℕ) (va n : ℕ) → crosses (on_now c) va n ≡ true
+    (c : Core) (base : ℕ) (ram : List ℕ) (va n : ℕ) → Crosses c va n
     → (Ready c base ram va n Read → ((i : ℕ) → i < n → own_fails c base ram va Read i ≡ None) → (v : ℕ) × ((read_of c base ram va n).answer ≡ Ok v))
     × (Ready c base ram va n Write → ((i : ℕ) → i < n → own_fails c base ram va Write i ≡ None) → (write_of c base ram va n).answer ≡ Ok tt)

@@ -13,7 +13,7 @@ use Rattle.tlb.specs.Count.{with_tally, hit_counted, walk_counted}
 use Rattle.tlb.specs.Entry.{blank, slot_of, serves, entry_for}
 use Rattle.tlb.proofs.Lists.{each-getD}
 use Rattle.tlb.specs.Live.{Follows, line_in, live, Made, WellFormed, LeafLevel}
-use Rattle.tlb.specs.Model.{empty, holds, Line, one_hit, one_walk, counting, keep, Access, line_of_leaf, reach_of, judge, walked, looked, flat, unhinted}
+use Rattle.tlb.specs.Model.{empty, holds, Line, one_hit, one_walk, counting, keep, Access, line_of_leaf, judge, walked, looked, flat, unhinted}
 use Rattle.tlb.specs.Tlb.{entry_at, get_of}
 use Rattle.tlb.specs.Translate.{tag_in, walked_in, looked_in, miss_in}
 use Rattle.tlb.specs.declared.{entry.Entry.Entry, count.Tally.Tally, Tlb.Tlb}

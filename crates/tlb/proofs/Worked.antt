@@ -45,7 +45,7 @@ unfolding run model_run translate fetch hinted tried noted unhinted looked walke
 worked-fetches = record { cache = refl; model = refl }
 
 pub worked-flat : WorkedFlat
-unfolding run model_run translate hinted tried noted unhinted looked walked judge keep line_for folded
+unfolding run model_run translate fetch hinted tried noted unhinted looked walked judge keep line_for folded
     miss_in walked_in get_of put_of judged place_of blanks no_hints no_tallies
 worked-flat = record { cache = refl; model = refl }
 

@@ -4,7 +4,7 @@ use Rattle.fault.specs.First.{first}
 use Rattle.walk.specs.Flat.{flat_by}
 use Rattle.sysreg.specs.Regs.{index_of}
 use Rattle.sysreg.specs.declared.regs.Regime.{Regime}
-use Rattle.sysreg.specs.declared.regs.Regime.TheVariants.{El1, El2, El3}
+use Rattle.sysreg.specs.declared.regs.Regime.TheVariants.{El1}
 use Rattle.tlb.specs.Hint.{on_page}
 use Rattle.tlb.specs.declared.{entry.Entry.Entry, access.Kind.Kind, access.NoSuchKind.NoSuchKind, access.Privilege.Privilege}
 use Rattle.tlb.specs.Answers.{Answer}

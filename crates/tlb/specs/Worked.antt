@@ -241,11 +241,14 @@ WorkedFetches =
     ∷ [])
 
 -- FLAT. With stage 1 off the answer is the address without its tag, or a fault of status 0x00, and neither is counted. An address that is too
--- large drops no hint of its slot; an alias by tag has a hint of its own, which takes it. That a hint serves shows where stage 1 is on and
--- the walk would fault.
+-- large drops no hint of its slot, nor the fetch hint; an alias by tag has a hint of its own, which takes it. That a hint serves shows where stage 1
+-- is on and the walk would fault.
 
-abbrev flat_from : ℕ → ℕ → Op
-flat_from va u = translates (record (access_by El1 1 false Read va (Err 6)) { on = false; untagged = u })
+abbrev flat_from : Kind → ℕ → ℕ → Op
+flat_from k va u = translates (record (access_by El1 1 false k va (Err 6)) { on = false; untagged = u })
+
+abbrev flat_fetch_from : ℕ → Op
+flat_fetch_from va = fetches (record (access_by El1 1 false Fetch va (Err 6)) { on = false; untagged = va })
 
 -- whether it is an address, the answer, hits and walks of EL1
 abbrev told : Seen → List ℕ
@@ -254,12 +257,18 @@ told s = (if is_address s.answer then 1 else 0) ∷ answered s.answer ∷ hits_a
 abbrev pub WorkedFlat : Type 0
 WorkedFlat =
     Shows told
-    ((flat_from 0x5123 0x5123, 1 ∷ 0x5123 ∷ 0 ∷ 0 ∷ [])
-    ∷ (flat_from 0x1000_0000_5000 0x1000_0000_5000, 0 ∷ 0 ∷ 0 ∷ 0 ∷ [])
+    ((flat_from Read 0x5123 0x5123, 1 ∷ 0x5123 ∷ 0 ∷ 0 ∷ [])
+    ∷ (flat_from Read 0x1000_0000_5000 0x1000_0000_5000, 0 ∷ 0 ∷ 0 ∷ 0 ∷ [])
     ∷ (asked El1 1 false Read 0x5008 (Err 6), 1 ∷ 0x5008 ∷ 0 ∷ 0 ∷ [])
-    ∷ (flat_from 0x5A00_0000_0000_5004 0x5004, 1 ∷ 0x5004 ∷ 0 ∷ 0 ∷ [])
+    ∷ (flat_from Read 0x5A00_0000_0000_5004 0x5004, 1 ∷ 0x5004 ∷ 0 ∷ 0 ∷ [])
     ∷ (asked El1 1 false Read 0x5A00_0000_0000_5010 (Err 6), 1 ∷ 0x5010 ∷ 0 ∷ 0 ∷ [])
     ∷ (asked El1 1 false Read 0x5008 (Err 6), 0 ∷ 6 ∷ 0 ∷ 1 ∷ [])
+    ∷ (flat_from Write 0x5123 0x5123, 1 ∷ 0x5123 ∷ 0 ∷ 1 ∷ [])
+    ∷ (flat_from Write 0x1000_0000_5000 0x1000_0000_5000, 0 ∷ 0 ∷ 0 ∷ 1 ∷ [])
+    ∷ (asked El1 1 false Write 0x5008 (Err 6), 1 ∷ 0x5008 ∷ 0 ∷ 1 ∷ [])
+    ∷ (flat_fetch_from 0x5123, 1 ∷ 0x5123 ∷ 0 ∷ 1 ∷ [])
+    ∷ (flat_fetch_from 0x1000_0000_5000, 0 ∷ 0 ∷ 0 ∷ 1 ∷ [])
+    ∷ (fetches (access_by El1 1 false Fetch 0x5008 (Err 6)), 1 ∷ 0x5008 ∷ 0 ∷ 1 ∷ [])
     ∷ [])
 
 -- WHAT IS PENDING for other cores: an equal second broadcast leaves it, another makes it All, and what this core carries out does not count.
