@@ -4,8 +4,8 @@
 //! Its module `stage1`, which is for no caller, is the text of crates in Rattle, Rust with contracts, in which every
 //! function is proved to meet its contract; the contracts are taken away. The rest of this crate gives it types and
 //! names. What rustc makes of it is run beside pimu's own Rust, operation by operation, and so, on the same lists, is
-//! the library that was proved and compiled as one: that is tested, and not proved. No unsafe code, no dependency, no allocation but for a core's words in
-//! boxes (feature `alloc`).
+//! the library that was proved and compiled as one: that is tested, and not proved. No unsafe code, no dependency, no
+//! allocation but for a core's words in boxes (feature `alloc`).
 //!
 //! [`embedding`] shows an emulator's use: devices, two cores, faults that the guest takes.
 //!
