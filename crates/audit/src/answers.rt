@@ -142,7 +142,8 @@ fn tally(core: &Core) -> Tally {
 pub fn answer(core: &mut Core, base: u64, ram: &[u8], ask: Ask) -> Answered
     ensures ask { result.ask ≡ ask }
     ensures core { result.core ≡ answer_of (access_now core.old base ram.now) (ask_of ask) core.old.tlb }
-    ensures after { core.new ≡ record core.old { tlb = tlb_ask (access_now core.old base ram.now) (ask_of ask) core.old.tlb } }
+    ensures after { core.new
+        ≡ record core.old { tlb = tlb_ask (access_now core.old base ram.now) (ask_of ask) core.old.tlb } }
     ensures fresh { result.fresh ≡ fresh_answer core.old (window_of base ram.now) ask }
 {
     let before = tally(core);

@@ -61,7 +61,8 @@ fn reshaped(core: &Core, key: u32, value: u64) -> Option<Inval>
 /// What a call is about to invalidate: nothing where it is refused.
 pub fn dropped(core: &Core, base: u64, ram: &[u8], call: Call) -> Option<Inval>
     ensures { drops_in result
-        ≡ if_allowed (ruling_in (bare_of core.now) (window_of base ram.now) call) (drops_of (bare_of core.now) call) [] }
+        ≡ if_allowed (ruling_in (bare_of core.now) (window_of base ram.now) call)
+        (drops_of (bare_of core.now) call) [] }
 {
     let level = core.privilege.level;
     check::missed(level, base, ram.len() as u64, call).ok()?;

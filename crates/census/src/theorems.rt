@@ -34,9 +34,9 @@ pub fn sums_of_counts()
         → first / 4096 ≡ other / 4096 → census_of s r memory first pages ≡ census_of s r memory other pages }
 {}
 
-// Which places stay 0: the statuses that no walk ends at, all but fourteen permission bytes, and with stage 1 off every
-// place but that of flat pages, those that the manual's rule gives an address, and status 0x00, the others. With stage 1
-// on no page is flat.
+// Which places stay 0: the statuses that no walk ends at, all but fourteen permission bytes, and with stage 1 off
+// every place but that of flat pages, those that the manual's rule gives an address, and status 0x00, the others. With
+// stage 1 on no page is flat.
 pub fn empty_places()
     ensures no_other_status { EachCensus (λ count end pages. (status : ℕ) → status < 64
         → NoStatus status → count status ≡ 0) }

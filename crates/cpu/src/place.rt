@@ -84,7 +84,8 @@ impl Pages {
     }
 }
 
-/// The bytes of a split access, judged one by one: the lowest of n that lies outside a window of `len` bytes from `base`.
+/// The bytes of a split access, judged one by one: the lowest of n that lies outside a window of `len` bytes from
+/// `base`.
 pub fn first_outside(base: u64, len: u64, p: Pages, n: u64) -> Result<(), Outside>
     ensures { result ≡ first_outside base len p 0 n }
 {

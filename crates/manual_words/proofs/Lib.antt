@@ -1,1 +1,3 @@
 mod Classes
+mod Encodings
+mod Reports

@@ -1,5 +1,6 @@
 -- What the contracts of `manual_words` cite.
 pub mod Operations
+pub mod Encodings
 pub mod Status
 pub mod Memory
 pub mod Par

@@ -1,10 +1,9 @@
 -- MAIR_ELx.Attr<n> and SH as the manual has them (DDI 0487, D17.2, from knowledge of ARMv8.0: the document itself was not at hand).
-use Rattle.std.specs.Prelude.{if◌then◌else◌, ℕ, Bool, not, ◌==◌}
+use Rattle.std.specs.Prelude.{if◌then◌else◌, ℕ, not, ◌==◌, ◌%◌, ◌*◌}
 use Rattle.word.specs.Bits.{bit0, bit_on, field}
 use Rattle.manual_words.specs.declared.{memory.Device.Device, memory.Cacheability.Cacheability, memory.Memory.Memory, memory.Shareability.Shareability}
 use Rattle.manual_words.specs.declared.memory.Device.TheVariants.{NGnRnE, NGnRE, NGRE, GRE}
 use Rattle.manual_words.specs.declared.memory.Cacheability.TheVariants.{NonCacheable, Cacheable}
-use Rattle.manual_words.specs.declared.memory.Memory.TheVariants as Memory
 use Rattle.manual_words.specs.declared.memory.Shareability.TheVariants.{NonShareable, Reserved, OuterShareable, InnerShareable}
 
 -- 0b0000dd00: dd
@@ -33,3 +32,7 @@ shareability_of n =
     else if field n 0 2 == 0b01 then Reserved
     else if field n 0 2 == 0b10 then OuterShareable
     else InnerShareable
+
+-- Attr<n> of MAIR_ELx
+abbrev pub attribute_at : ℕ → ℕ → ℕ
+attribute_at mair n = field mair (n % 8 * 8) 8

@@ -1,12 +1,12 @@
 -- AT, DC, IC and TLBI by their names here, as the manual's names of crates/system/specs.
 use Rattle.std.specs.Prelude.{if◌then◌else◌, Bool, true, false, ◌&&◌, List, [], ◌∷◌, ℕ, ◌==◌}
-use Rattle.system.specs.Decode.{Name, TLBI}
+use Rattle.system.specs.Decode.{Name, TLBI, named}
 use Rattle.system.specs.Decode.{AT-S1E1R, AT-S1E1W, AT-S1E0R, AT-S1E0W, AT-S1E2R, AT-S1E2W, AT-S12E1R, AT-S12E1W, AT-S12E0R, AT-S12E0W, AT-S1E3R, AT-S1E3W}
 use Rattle.system.specs.Decode.{DC-ZVA, DC-CVAC, DC-CVAU, DC-CIVAC, DC-IVAC, DC-ISW, DC-CSW, DC-CISW, IC-IVAU, IC-IALLU, IC-IALLUIS}
-use Rattle.system.specs.Tlbi.{TlbiForm, Instruction}
+use Rattle.system.specs.Tlbi.{TlbiForm, Instruction, instruction_at, instructions}
 use Rattle.system.specs.Tlbi.{VMALLE1, VAE1, ASIDE1, VAAE1, VALE1, VAALE1, ALLE2, VAE2, ALLE1, VALE2, VMALLS12E1, ALLE3, VAE3, VALE3, IPAS2E1, IPAS2LE1}
+use Rattle.manual_words.specs.declared.encoding.Fields.{Fields}
 use Rattle.manual_words.specs.declared.{operation.At.At, operation.Cache.Cache, operation.Tlbi.Tlbi, operation.Operation.Operation}
-use Rattle.manual_words.specs.declared.operation.Operation.TheVariants as Operation
 use Rattle.manual_words.specs.declared.operation.At.TheVariants.{S1e1r, S1e1w, S1e0r, S1e0w, S1e2r, S1e2w, S12e1r, S12e1w, S12e0r, S12e0w, S1e3r, S1e3w}
 use Rattle.manual_words.specs.declared.operation.Cache.TheVariants.{Zva, Cvac, Cvau, Civac, Ivac, Isw, Csw, Cisw, Ivau, Iallu, Ialluis}
 use Rattle.manual_words.specs.declared.operation.Tlbi.TheVariants.{Vmalle1, Vmalle1is, Vae1, Vae1is, Aside1, Aside1is, Vaae1, Vaae1is, Vale1, Vale1is, Vaale1, Vaale1is}
@@ -119,3 +119,14 @@ abbrev pub shareable_at : List TlbiForm → ℕ → ℕ → ℕ → Bool
 shareable_at [] op1 crm op2 = false
 shareable_at (r ∷ rs) op1 crm op2 =
     if op1 == r.op1 && (crm == r.crm && op2 == r.op2) then r.shareable else shareable_at rs op1 crm op2
+
+-- WHAT IS FOUND IN THE TABLES OF crates/system BY AN ENCODING'S FIELDS
+
+abbrev pub name_at : Fields → Name
+name_at f = (named f.op1 f.crn f.crm f.op2).name
+
+abbrev pub tlbi_at : Fields → Instruction
+tlbi_at f = instruction_at instructions f.op1 f.crm f.op2
+
+abbrev pub reaches : Fields → Bool
+reaches f = shareable_at instructions f.op1 f.crm f.op2

@@ -1,7 +1,6 @@
 //! Memory attributes in words: a byte of MAIR_ELx, and a descriptor's SH (DDI 0487, D17.2, MAIR_EL1).
-ghost use Rattle.std.specs.Prelude.{◌≡◌, ◌%◌, ◌*◌};
-ghost use Rattle.word.specs.Bits.{field};
-ghost use Rattle.manual_words.specs.Memory.{cacheability_of, device_of, memory_of, shareability_of};
+ghost use Rattle.std.specs.Prelude.{◌≡◌};
+ghost use Rattle.manual_words.specs.Memory.{attribute_at, cacheability_of, device_of, memory_of, shareability_of};
 ghost use Rattle.manual_words.specs.declared.memory.Memory.TheVariants.{Normal};
 
 use std::fmt;
@@ -118,7 +117,7 @@ impl Shareability {
 
 /// The byte of MAIR_ELx that an index names.
 pub fn attribute(mair: u64, index: u8) -> u8
-    ensures { result ≡ field mair (index % 8 * 8) 8 }
+    ensures { result ≡ attribute_at mair index }
 {
     (mair >> (index % 8 * 8) & 0xFF) as u8
 }

@@ -1,12 +1,7 @@
 //! AT, DC, IC and TLBI by the manual's names.
-ghost use Rattle.std.specs.Prelude.{◌≡◌};
-ghost use Rattle.system.specs.Decode.{named, TLBI};
-ghost use Rattle.system.specs.Tlbi.{instruction_at, instructions};
-ghost use Rattle.manual_words.specs.Operations.{at_name, cache_name, instruction_of, is_shareable, name_of, shareable_at};
 
 use crate::nearest::Nearest;
 use std::fmt;
-use system::decode::Encoding;
 
 /// An address translation.
 #[derive(Clone, Copy, PartialEq, Eq)]
@@ -95,16 +90,8 @@ pub enum Group {
     Tlbi,
 }
 
-/// op1, CRn, CRm and op2 of a system instruction.
-#[derive(Clone, Copy, PartialEq, Eq)]
-pub struct Fields {
-    pub op1: u64,
-    pub crn: u64,
-    pub crm: u64,
-    pub op2: u64,
-}
-
-const OPERATIONS: [Operation; 55] = [
+/// The operations that have a name.
+pub const OPERATIONS: [Operation; 55] = [
     Operation::At(At::S1e1r),
     Operation::At(At::S1e1w),
     Operation::At(At::S1e0r),
@@ -162,34 +149,7 @@ const OPERATIONS: [Operation; 55] = [
     Operation::Tlbi(Tlbi::Ipas2le1is),
 ];
 
-fn encoded(op1: u64, crn: u64, crm: u64, op2: u64) -> Fields
-    ensures { result ≡ record { op1 = op1; crn = crn; crm = crm; op2 = op2 } }
-{
-    Fields { op1, crn, crm, op2 }
-}
-
 impl At {
-    /// How it is encoded.
-    #[tactic(auto, unfolding(system::specs::Decode::named))]
-    pub fn fields(self) -> Fields
-        ensures { (named result.op1 result.crn result.crm result.op2).name ≡ at_name self }
-    {
-        match self {
-            At::S1e1r => encoded(0, 7, 8, 0),
-            At::S1e1w => encoded(0, 7, 8, 1),
-            At::S1e0r => encoded(0, 7, 8, 2),
-            At::S1e0w => encoded(0, 7, 8, 3),
-            At::S1e2r => encoded(4, 7, 8, 0),
-            At::S1e2w => encoded(4, 7, 8, 1),
-            At::S12e1r => encoded(4, 7, 8, 4),
-            At::S12e1w => encoded(4, 7, 8, 5),
-            At::S12e0r => encoded(4, 7, 8, 6),
-            At::S12e0w => encoded(4, 7, 8, 7),
-            At::S1e3r => encoded(6, 7, 8, 0),
-            At::S1e3w => encoded(6, 7, 8, 1),
-        }
-    }
-
     fn name(self) -> &'static str {
         match self {
             At::S1e1r => "s1e1r",
@@ -209,26 +169,6 @@ impl At {
 }
 
 impl Cache {
-    /// How it is encoded.
-    #[tactic(auto, unfolding(system::specs::Decode::named))]
-    pub fn fields(self) -> Fields
-        ensures { (named result.op1 result.crn result.crm result.op2).name ≡ cache_name self }
-    {
-        match self {
-            Cache::Zva => encoded(3, 7, 4, 1),
-            Cache::Cvac => encoded(3, 7, 10, 1),
-            Cache::Cvau => encoded(3, 7, 11, 1),
-            Cache::Civac => encoded(3, 7, 14, 1),
-            Cache::Ivac => encoded(0, 7, 6, 1),
-            Cache::Isw => encoded(0, 7, 6, 2),
-            Cache::Csw => encoded(0, 7, 10, 2),
-            Cache::Cisw => encoded(0, 7, 14, 2),
-            Cache::Ivau => encoded(3, 7, 5, 1),
-            Cache::Iallu => encoded(0, 7, 5, 0),
-            Cache::Ialluis => encoded(0, 7, 1, 0),
-        }
-    }
-
     fn name(self) -> &'static str {
         match self {
             Cache::Zva => "zva",
@@ -247,49 +187,6 @@ impl Cache {
 }
 
 impl Tlbi {
-    /// How it is encoded.
-    #[tactic(auto, unfolding(system::specs::Decode::named))]
-    pub fn fields(self) -> Fields
-        ensures name { (named result.op1 result.crn result.crm result.op2).name ≡ TLBI }
-        ensures instruction { instruction_at instructions result.op1 result.crm result.op2 ≡ instruction_of self }
-        ensures reach { shareable_at instructions result.op1 result.crm result.op2 ≡ is_shareable self }
-    {
-        match self {
-            Tlbi::Vmalle1 => encoded(0, 8, 7, 0),
-            Tlbi::Vmalle1is => encoded(0, 8, 3, 0),
-            Tlbi::Vae1 => encoded(0, 8, 7, 1),
-            Tlbi::Vae1is => encoded(0, 8, 3, 1),
-            Tlbi::Aside1 => encoded(0, 8, 7, 2),
-            Tlbi::Aside1is => encoded(0, 8, 3, 2),
-            Tlbi::Vaae1 => encoded(0, 8, 7, 3),
-            Tlbi::Vaae1is => encoded(0, 8, 3, 3),
-            Tlbi::Vale1 => encoded(0, 8, 7, 5),
-            Tlbi::Vale1is => encoded(0, 8, 3, 5),
-            Tlbi::Vaale1 => encoded(0, 8, 7, 7),
-            Tlbi::Vaale1is => encoded(0, 8, 3, 7),
-            Tlbi::Alle2 => encoded(4, 8, 7, 0),
-            Tlbi::Alle2is => encoded(4, 8, 3, 0),
-            Tlbi::Vae2 => encoded(4, 8, 7, 1),
-            Tlbi::Vae2is => encoded(4, 8, 3, 1),
-            Tlbi::Alle1 => encoded(4, 8, 7, 4),
-            Tlbi::Alle1is => encoded(4, 8, 3, 4),
-            Tlbi::Vale2 => encoded(4, 8, 7, 5),
-            Tlbi::Vale2is => encoded(4, 8, 3, 5),
-            Tlbi::Vmalls12e1 => encoded(4, 8, 7, 6),
-            Tlbi::Vmalls12e1is => encoded(4, 8, 3, 6),
-            Tlbi::Alle3 => encoded(6, 8, 7, 0),
-            Tlbi::Alle3is => encoded(6, 8, 3, 0),
-            Tlbi::Vae3 => encoded(6, 8, 7, 1),
-            Tlbi::Vae3is => encoded(6, 8, 3, 1),
-            Tlbi::Vale3 => encoded(6, 8, 7, 5),
-            Tlbi::Vale3is => encoded(6, 8, 3, 5),
-            Tlbi::Ipas2e1 => encoded(4, 8, 4, 1),
-            Tlbi::Ipas2e1is => encoded(4, 8, 0, 1),
-            Tlbi::Ipas2le1 => encoded(4, 8, 4, 5),
-            Tlbi::Ipas2le1is => encoded(4, 8, 0, 5),
-        }
-    }
-
     fn name(self) -> &'static str {
         match self {
             Tlbi::Vmalle1 => "vmalle1",
@@ -370,52 +267,6 @@ impl Group {
 }
 
 impl Operation {
-    /// How it is encoded.
-    pub fn fields(self) -> Fields
-        ensures { (named result.op1 result.crn result.crm result.op2).name ≡ name_of self }
-    {
-        match self {
-            Operation::At(at) => at.fields(),
-            Operation::Cache(cache) => cache.fields(),
-            Operation::Tlbi(tlbi) => tlbi.fields(),
-        }
-    }
-
-    /// Its encoding, with the number of its register; 31 where it has none.
-    pub fn encoding(self, rt: u64) -> Encoding
-        ensures name { (named result.op1 result.crn result.crm result.op2).name ≡ name_of self }
-        ensures register { result.rt ≡ rt }
-    {
-        let fields = self.fields();
-        Encoding {
-            op1: fields.op1,
-            crn: fields.crn,
-            crm: fields.crm,
-            op2: fields.op2,
-            rt,
-        }
-    }
-
-    /// The operation that an encoding names.
-    pub fn encoded_as(encoding: &Encoding) -> Option<Operation> {
-        let fields = encoded(encoding.op1, encoding.crn, encoding.crm, encoding.op2);
-        for operation in OPERATIONS {
-            if operation.fields() == fields {
-                return Some(operation);
-            }
-        }
-        None
-    }
-
-    /// Whether a register follows its name.
-    pub fn has_operand(self) -> bool {
-        match self {
-            Operation::At(_) => true,
-            Operation::Cache(cache) => !matches!(cache, Cache::Iallu | Cache::Ialluis),
-            Operation::Tlbi(tlbi) => tlbi.has_operand(),
-        }
-    }
-
     fn group(self) -> Group {
         match self {
             Operation::At(_) => Group::At,
@@ -431,25 +282,6 @@ impl Operation {
             Operation::Cache(cache) => cache.name(),
             Operation::Tlbi(tlbi) => tlbi.name(),
         }
-    }
-}
-
-impl Tlbi {
-    // What drops all of a regime or a stage names nothing more.
-    fn has_operand(self) -> bool {
-        !matches!(
-            self,
-            Tlbi::Vmalle1
-                | Tlbi::Vmalle1is
-                | Tlbi::Alle1
-                | Tlbi::Alle1is
-                | Tlbi::Alle2
-                | Tlbi::Alle2is
-                | Tlbi::Alle3
-                | Tlbi::Alle3is
-                | Tlbi::Vmalls12e1
-                | Tlbi::Vmalls12e1is
-        )
     }
 }
 

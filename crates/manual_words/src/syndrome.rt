@@ -1,7 +1,6 @@
 //! ESR_ELx in words (DDI 0487, D17.2.37).
 ghost use Rattle.std.specs.Prelude.{◌≡◌};
-ghost use Rattle.word.specs.Bits.{bit_on, field};
-ghost use Rattle.manual_words.specs.Syndrome.{class_at};
+ghost use Rattle.manual_words.specs.Syndrome.{class_at, class_in, far_told, immediate_in, status_in, write_in};
 
 use crate::status::Status;
 use std::fmt;
@@ -45,32 +44,46 @@ impl Class {
             _ => Class::Other(ec),
         }
     }
+
+    /// Whether its exceptions write FAR_ELx: of those that this core takes, aborts and PC alignment.
+    pub fn writes_far(self) -> bool
+        ensures { result ≡ far_told self }
+    {
+        matches!(
+            self,
+            Class::PcAlignment
+                | Class::InsnAbortFromLower
+                | Class::InsnAbort
+                | Class::DataAbortFromLower
+                | Class::DataAbort
+        )
+    }
 }
 
 impl Syndrome {
     pub fn class(self) -> Class
-        ensures { result ≡ class_at (field self.0 26 6) }
+        ensures { result ≡ class_in self.0 }
     {
         Class::new((self.0 / 0x400_0000 % 64) as u8)
     }
 
     /// The status of an abort: DFSC and IFSC in bits 5 to 0.
     pub fn status(self) -> u8
-        ensures { result ≡ field self.0 0 6 }
+        ensures { result ≡ status_in self.0 }
     {
         (self.0 % 64) as u8
     }
 
     /// WnR, bit 6: the data abort is a write's.
     pub fn is_write(self) -> bool
-        ensures { result ≡ bit_on self.0 6 }
+        ensures { result ≡ write_in self.0 }
     {
         self.0 / 64 % 2 == 1
     }
 
     /// The immediate of SVC, HVC, SMC and BRK, bits 15 to 0.
     pub fn immediate(self) -> u16
-        ensures { result ≡ field self.0 0 16 }
+        ensures { result ≡ immediate_in self.0 }
     {
         (self.0 % 0x1_0000) as u16
     }

@@ -1,5 +1,5 @@
-// A fetch on a core that is lent, and where one goes: the number, and the instruction or the address in ans. Both are one
-// text: INSN says whether the instruction is read.
+// A fetch on a core that is lent, and where one goes: the number, and the instruction or the address in ans. Both are
+// one text: INSN says whether the instruction is read.
 ghost use Rattle.std.specs.Prelude.{◌≡◌, None};
 ghost use Rattle.word.specs.Ram.{word_at};
 ghost use Rattle.tlb.specs.Hint.{fetch_found};

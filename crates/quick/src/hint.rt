@@ -1,5 +1,5 @@
-// Where the data hint sends an access at once. Kind, level, mark, window and key are one condition, so that few jumps are
-// taken, and what only the rest of a call needs is laid out there.
+// Where the data hint sends an access at once. Kind, level, mark, window and key are one condition, so that few jumps
+// are taken, and what only the rest of a call needs is laid out there.
 ghost use Rattle.std.specs.Prelude.{◌≡◌, ◌<◌};
 ghost use Rattle.tlb.specs.Tlb.{hint_at};
 ghost use Rattle.call_words.specs.Ops.{kind_of};

@@ -108,7 +108,8 @@ fn checked<P: Purpose, const TELLS: bool>(
     ram: &[u8],
 ) -> u64
     ensures { Tells (ram_checked core.old base ram.now
-        (asked_run TELLS va (translate_of core.old (word_at base ram.now 8) va P.KIND))) ans.old result ans.new core.new }
+        (asked_run TELLS va (translate_of core.old (word_at base ram.now 8) va P.KIND)))
+        ans.old result ans.new core.new }
 {
     match check::with_ram(core.privilege.level, base, ram.len() as u64) {
         Ok(()) => by_hint::<P, TELLS>(core, va, ans, base, ram),
@@ -127,7 +128,8 @@ fn rest<P: Purpose, const TELLS: bool>(
 ) -> u64
     requires not_served { served core.old base (length ram.now) va (Ok P.KIND) ≡ None }
     ensures { Tells (ram_checked core.old base ram.now
-        (asked_run TELLS va (translate_of core.old (word_at base ram.now 8) va P.KIND))) ans.old result ans.new core.new }
+        (asked_run TELLS va (translate_of core.old (word_at base ram.now 8) va P.KIND)))
+        ans.old result ans.new core.new }
 {
     if 3 < core.privilege.level {
         checked::<P, TELLS>(core, va, ans, base, ram)

@@ -1,7 +1,8 @@
 // The words of a core, place by place.
 ghost use Rattle.std.specs.Prelude.{◌≡◌, [], ◌∷◌};
 ghost use Rattle.saved.specs.CoreOf.{core_of};
-ghost use Rattle.saved.specs.WordsOf.{register_words, state_words, level_words, pending_kind, pending_value, fetch_known};
+ghost use Rattle.saved.specs.WordsOf.{register_words, state_words, level_words};
+ghost use Rattle.saved.specs.WordsOf.{pending_kind, pending_value, fetch_known};
 ghost use Rattle.saved.specs.WordsOf.{fetch_or_zeros, held};
 ghost use Rattle.saved.specs.WordsOf.{attributes, hint_word, entry_word, word_of, words_of};
 

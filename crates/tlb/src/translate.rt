@@ -35,8 +35,8 @@ impl Tlb {
         }
     }
 
-    /// The answer of a translation that no hint serves, where no walk is needed: with stage 1 off by the address alone, or
-    /// by the entry of its page. It leaves a hint, where one may serve. RAM is read by no code here.
+    /// The answer of a translation that no hint serves, where no walk is needed: with stage 1 off by the address
+    /// alone, or by the entry of its page. It leaves a hint, where one may serve. RAM is read by no code here.
     #[inline(always)]
     #[tactic(auto, unfolding(crate::specs::Translate::miss_in))]
     pub fn at_hand(&mut self, a: Request, base: u64, ram: &[u8]) -> Option<Result<u64, Fault>>
@@ -60,8 +60,8 @@ impl Tlb {
         Some(answer)
     }
 
-    /// A translation by a walk, whatever is at hand: where a walk is needed, the translation. A leaf becomes an entry and
-    /// is judged, a fault makes none. It leaves a hint, where one may serve.
+    /// A translation by a walk, whatever is at hand: where a walk is needed, the translation. A leaf becomes an entry
+    /// and is judged, a fault makes none. It leaves a hint, where one may serve.
     #[inline(always)]
     #[tactic(auto, unfolding(crate::specs::Translate::walked_in))]
     pub fn by_walk(&mut self, a: Request, base: u64, ram: &[u8]) -> Result<u64, Fault>

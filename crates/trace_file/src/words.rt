@@ -36,15 +36,18 @@ fn register<W: Write>(out: &mut W, register: Register, value: u64) -> io::Result
     }
 }
 
-// What abort entry left at the level that it went to.
+// What abort entry left at the level that it went to: FAR where the class of ESR is one of those that write it.
 fn entry<W: Write>(out: &mut W, core: &Core) -> io::Result<()> {
     let level = core.privilege.level;
     let regime = Regime::of_level(level);
     let sys = &core.sys;
     let place = regime.index();
+    let syndrome = sys.esr[place];
     writeln!(out, "    taken to EL{level}, PC {:x}", core.pc)?;
-    register(out, Register::Esr(regime), sys.esr[place])?;
-    register(out, Register::Far(regime), sys.far[place])?;
+    register(out, Register::Esr(regime), syndrome)?;
+    if Syndrome(syndrome).class().writes_far() {
+        register(out, Register::Far(regime), sys.far[place])?;
+    }
     register(out, Register::Elr(regime), sys.elr[place])
 }
 

@@ -1,5 +1,5 @@
 //! Names that stand in a trace for numbers: of lines, exceptions, kinds of access and regimes. Capitals do not matter,
-//! but in a line's own name.
+//! but in a line's own name; there they do not in `at`, `dc`, `ic` and `tlbi`.
 use crate::reason::Reason;
 use manual_words::nearest::Nearest;
 use sysreg::regs::Regime;
@@ -41,7 +41,7 @@ const EXCEPTIONS: [(&str, ExceptionName); 12] = [
     ("pc-alignment", ExceptionName::PcAlignment),
 ];
 
-/// Whether a word is no number and begins as a name does.
+/// Whether a word begins with a letter, as a name does. A number of hexadecimal digits may too.
 pub fn is_name(word: &[u8]) -> bool {
     match word.first() {
         Some(first) => first.is_ascii_alphabetic(),

@@ -140,8 +140,8 @@ pub fn every_census()
 {}
 
 /// What a count means: how many pages the core without a cache answers with that fault; that a page under a permission
-/// byte is answered with an address just where the byte has the bit; that a flat page is answered with its flat address.
-/// Rules out a page counted under another status, or twice.
+/// byte is answered with an address just where the byte has the bit; that a flat page is answered with its flat
+/// address. Rules out a page counted under another status, or twice.
 pub fn census_meaning()
     ensures faults { census_faults }
     ensures rights { rights_allow }

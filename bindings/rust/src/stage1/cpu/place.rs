@@ -76,7 +76,8 @@ impl Pages {
     }
 }
 
-/// The bytes of a split access, judged one by one: the lowest of n that lies outside a window of `len` bytes from `base`.
+/// The bytes of a split access, judged one by one: the lowest of n that lies outside a window of `len` bytes from
+/// `base`.
 #[inline]
 pub fn first_outside(base: u64, len: u64, p: Pages, n: u64) -> Result<(), Outside> {
     let mut i: u64 = 0;

@@ -1,6 +1,6 @@
 // Written by tools/plain from crates/quick/src/fetch.rt: change that.
-//! A fetch on a core that is lent, and where one goes: the number, and the instruction or the address in ans. Both are one
-//! text: INSN says whether the instruction is read.
+//! A fetch on a core that is lent, and where one goes: the number, and the instruction or the address in ans. Both are
+//! one text: INSN says whether the instruction is read.
 
 use crate::stage1::cpu::{Core, bytes, check};
 use crate::stage1::fault::Fault;

@@ -1,6 +1,6 @@
 // Written by tools/plain from crates/quick/src/hint.rt: change that.
-//! Where the data hint sends an access at once. Kind, level, mark, window and key are one condition, so that few jumps are
-//! taken, and what only the rest of a call needs is laid out there.
+//! Where the data hint sends an access at once. Kind, level, mark, window and key are one condition, so that few jumps
+//! are taken, and what only the rest of a call needs is laid out there.
 
 use crate::stage1::cpu::Core;
 use crate::stage1::tlb::access::Kind;
