@@ -463,7 +463,10 @@ static inline uint64_t a72_get_far(a72_core *core, uint64_t level) {
 /* The physical address of the last load that was translated. */
 uint64_t a72_get_last_pa(a72_core *core);
 
-/* The physical address of the last external abort: of a load or store with status 0x10, a device's address. */
+/* The physical address of the last external abort of an access; it stays until the next. Of a load or store with
+ * status 0x10 it is a device's where the access lies in one page (va % 4096 + size <= 4096, or stage 1 is off) and no
+ * byte of it in RAM: nothing has moved then. Over two pages it is the lowest byte's outside RAM, and a store may have
+ * written those before it. */
 uint64_t a72_get_abort_pa(a72_core *core);
 
 /* Translations that an entry of the cache answered, with a permission fault too, and walks, however they ended; by

@@ -1,6 +1,7 @@
 #!/bin/sh
 # The C interface is one wherever it is written: the places of a saved core's words, the memory of a core, the numbers that the functions give, the counts of
-# a census, the keys of the registers, the system operations, and each function's parameters. Compares the library (crates/), include/a72.h, bindings/rust/src and bindings/rust-archive/src, line by line. Wants nothing.
+# a census, the keys of the registers, the system operations, and each function's parameters. Compares the library (crates/), include/a72.h, bindings/rust/src and bindings/rust-archive/src, line by line;
+# of keys and operations also tests/names.txt, which tests/tool.sh holds the tool to. Wants nothing.
 # Its last line is 'N lines are one in all tables'; where two differ it names both and the place, and ends with 1.
 set -eu
 cd "$(dirname "$0")/.."
@@ -82,11 +83,24 @@ awk '/^    [A-Z0-9_]+ [0-9]+ [0-9]+ [0-9]+ [0-9]+, place::/ { sub(",", "", $5); 
 sed -n 's/^#define A72_\([A-Z0-9_]*\) A72_KEY(\(.*\))$/\1 \2/p' $header | tr -d , | table $header
 one key bindings/rust/src/registers.rs $header
 
+# The names that the tool reads, by their lines in numbers: what it takes for a key or an operation by name. Of the lines that show other spellings none.
+# shellcheck disable=SC2016
+hex='function hex(s, n, i) { for (i = 1; i <= length(s); i++) n = 16 * n + index("0123456789abcdef", substr(s, i, 1)) - 1; return n }
+    function bits(v, low, n) { return int(v / 2 ^ low) % 2 ^ n }'
+awk "$hex"' /^reg [A-Z0-9_]+ 0 = reg [0-9a-f]+ 0$/ { k = hex($6); print $2, bits(k, 14, 2), bits(k, 11, 3), bits(k, 7, 4), bits(k, 3, 4), bits(k, 0, 3) }' \
+    tests/names.txt | sort | table tests/names.txt/key
+sort "$work/bindings/rust/src/registers.rs" | table key/sorted
+one key key/sorted tests/names.txt/key
+
 # System operations: NAME OP1 CRN CRM OP2.
 sed -n 's/^    [A-Za-z0-9_]*, "\([A-Z]*\) \([A-Z0-9]*\)": \([0-9 ]*\);$/\1_\2 \3/p' bindings/rust/src/system_operation.rs |
     table bindings/rust/src/system_operation.rs
 sed -n 's/^#define A72_\([A-Z]*_[A-Z0-9]*\) \([0-9]*, [0-9]*, [0-9]*, [0-9]*\)$/\1 \2/p' $header | tr -d , | table $header
 one operation bindings/rust/src/system_operation.rs $header
+awk "$hex"' /^(at|dc|ic|tlbi) [a-z0-9]+ (x[0-9]+ |xzr )?= sys / { n = $3 == "=" ? 5 : 6; print toupper($1 "_" $2), hex($n), hex($(n + 1)), hex($(n + 2)), hex($(n + 3)) }' \
+    tests/names.txt | sort | table tests/names.txt/operation
+sort "$work/bindings/rust/src/system_operation.rs" | table operation/sorted
+one operation operation/sorted tests/names.txt/operation
 
 # Functions, sorted: NAME, then each parameter as a C type without its name; `-` where nothing is given back.
 awk -f tools/functions.awk crates/core_static/src/*.rt | sort | table crates/core_static/src/all

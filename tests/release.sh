@@ -21,6 +21,15 @@ unset A72_LIB
 (cd bindings/rust-archive && cargo test --offline) >"$work/archive" 2>&1 || { cat "$work/archive"; exit 1; }
 tests=$(cat "$work/cargo" "$work/archive" | awk '/^test result/ { p += $4 } END { print p + 0 }')
 [ "$tests" -gt 0 ] || { echo "release.sh: cargo tested nothing"; exit 1; }
+# What the pages of the archive name is in it: the format of traces, and the tool's samples.
+for line in '^# Traces$' '^| `fresh` |' '^| `abort E` |'; do
+    grep -q "$line" docs/TRACES.md || { echo "release.sh: docs/TRACES.md has no line $line"; exit 1; }
+done
+for file in $(grep -o 'docs/TRACES\.md\|tests/[a-z]*\.trace' docs/TOOL.md | sort -u); do
+    [ -s "$file" ] || { echo "release.sh: docs/TOOL.md names $file, which is not packed"; exit 1; }
+done
+bin/a72 run tests/page.trace --short >"$work/ran"
+[ -s "$work/ran" ] || { echo "release.sh: bin/a72 carries out nothing"; exit 1; }
 for name in example embed; do
     "${CC:-cc}" -Iinclude "bindings/c/$name.c" lib/liba72abi.a -o "$work/$name"
     "$work/$name" >"$work/$name.out"

@@ -129,20 +129,24 @@ from 'by an entry of the cache' 80000 read 0
 from 'by a hint' 100000 write 0
 from 'with stage 1 off' 100000 read 3
 
-# The audit: on the lists of the oracle's tester of histories as many translations, and as many stale answers, as the tester finds; the core is right in all.
+# The audit: on the lists of the oracle's tester of histories as many translations, and the same stale answers by line and address, as the tester finds; the core
+# is right in all.
 audited() {
     seed=$1
     "$rust/generate" "$seed" 3000 --strict >"$work/trace"
-    told=$("$rust/faithful" "$seed" $((seed + 1)) 3000 | sed -n 's/^translations \([0-9]*\) .*stale but excused \([0-9]*\);.*/\2 \1/p')
+    "$rust/faithful" "$seed" $((seed + 1)) 3000 --stale >"$work/tester"
+    grep '^stale ' "$work/tester" >"$work/want"
+    told=$(sed -n 's/^translations \([0-9]*\) .*stale but excused \([0-9]*\);.*/\2 \1/p' "$work/tester")
     "$tool" audit "$work/trace" --all >"$work/out" 2>"$work/err"
     got=$?
     here=$(tail -n 1 "$work/out" | sed 's/^no stale answer in /0 in /; s/ stale in / in /; s/ in \([0-9]*\) accesses$/ \1/')
     found=$(grep -c '^STALE at ' "$work/out")
-    if [ -n "$told" ] && [ "$here" = "$told" ] && [ "$found" = "${told% *}" ] && [ "$got" = $((found > 0)) ] && ! grep -q COVERED "$work/out" && [ ! -s "$work/err" ]; then
+    awk '/^STALE at line / { sub(":", "", $4); line = $4 } /^  address / { print "stale", line, $2 }' "$work/out" >"$work/which"
+    if [ -n "$told" ] && [ "$here" = "$told" ] && [ "$found" = "${told% *}" ] && cmp -s "$work/want" "$work/which" && [ "$got" = $((found > 0)) ] && ! grep -q COVERED "$work/out" && [ ! -s "$work/err" ]; then
         stale=$((stale + found))
         pass
     else
-        fail "audit of seed $seed: $here, the tester $told, shown $found, status $got"
+        fail "audit of seed $seed: $here, the tester $told, shown $found, status $got; line and address: $(diff "$work/want" "$work/which" | head -n 3 | tr '\n' ' ')"
     fi
 }
 

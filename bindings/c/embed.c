@@ -19,10 +19,16 @@ static void put(uint64_t address, uint64_t value) {
         ram[address - BASE + i] = (uint8_t)(value >> 8 * i);
 }
 
-/* A load of an access that lies in one page: RAM, or the device that has its physical address. */
+/* Whether an access that ended so, with this fault's address, is the device's register at `pa`. It is where it lies in
+ * one page. Over two pages bytes of it may lie in RAM, and a store may have written those: it stays an abort. */
+static int is_device(a72_core *core, uint64_t number, uint64_t va, uint64_t size, uint64_t at, uint64_t pa) {
+    return number == EXTERNAL && at == va && va % 4096 + size <= 4096 && a72_get_abort_pa(core) == pa;
+}
+
+/* A load: of RAM, or of the device that has its physical address. */
 static uint64_t load(a72_core *core, uint64_t va, uint64_t size, uint64_t *value) {
     uint64_t number = a72_load(core, va, size, value, BASE, ram, LEN);
-    if (number == EXTERNAL && a72_get_abort_pa(core) == PORT + 4) {
+    if (is_device(core, number, va, size, *value, PORT + 4)) {
         *value = 1;
         return A72_DONE;
     }
@@ -31,7 +37,7 @@ static uint64_t load(a72_core *core, uint64_t va, uint64_t size, uint64_t *value
 
 static uint64_t store(a72_core *core, uint64_t va, uint64_t size, uint64_t value, uint64_t *address) {
     uint64_t number = a72_store(core, va, size, value, address, BASE, ram, LEN);
-    if (number == EXTERNAL && a72_get_abort_pa(core) == PORT) {
+    if (is_device(core, number, va, size, *address, PORT)) {
         printf("the port takes '%c'\n", (char)value);
         return A72_DONE;
     }
@@ -69,6 +75,9 @@ int main(void) {
 
     if (load(first, 0x2004, 4, &value) == A72_DONE && value == 1)
         store(first, 0x2000, 1, '!', &ans);
+    /* Four bytes for RAM, and four for the port: that is no device's access, but an abort. */
+    if (store(first, 0x1FFC, 8, UINT64_C(0x2A2A2A2A00000000), &ans) == EXTERNAL)
+        printf("over two pages: an abort at 0x%" PRIx64 "\n", ans);
 
     a72_fetch(second, 0x1000, &value, BASE, ram, LEN);
     printf("fetched 0x%08" PRIx64 "\n", value);

@@ -1,6 +1,6 @@
 //! The core of `bindings/rust` over the proved static library `liba72abi.a`, by the functions of `include/a72.h`: the
-//! same types and methods, but that a [`Core`] is not `Sync`. What runs here is the code that the Rattle compiler
-//! made.
+//! same types and methods, but for `walk`, and `Memory` with its three methods. What is at hand without RAM is always
+//! `None`, and a [`Core`] is not `Sync`. What runs here is the code that the Rattle compiler made.
 //!
 //! # Example
 //!

@@ -48,8 +48,8 @@ impl Core {
     }
 
     /// A general register, X0 to X30; all others are zero.
-    pub fn general(&self, number: usize) -> u64 {
-        raw::get_general(&self.held, number as u64)
+    pub fn general(&self, number: u64) -> u64 {
+        raw::get_general(&self.held, number)
     }
 
     /// The PC.

@@ -47,14 +47,14 @@ impl Core {
     }
 }
 
-#[cfg(all(test, feature = "std"))]
+#[cfg(all(test, feature = "alloc"))]
 mod tests {
     use crate::{Access, Core, Ram, Stop, SystemOperation, Width, registers};
 
     /// One core is asked at hand first, the other never: all that they hold is the same.
     #[test]
     fn it_is_the_first_half_of_the_operation() {
-        let mut bytes = std::vec![0; 0x1_0000];
+        let mut bytes = alloc::vec![0; 0x1_0000];
         let mut ram = Ram::new(0x4000_0000, &mut bytes);
         for (at, word) in [
             (0, 0x4000_1003),

@@ -1,9 +1,9 @@
-//! A core's words in boxes, with the feature `std`.
+//! A core's words in boxes, with the feature `alloc`.
 use crate::core::Core;
 use crate::place::{State, WORDS};
-use std::boxed::Box;
-use std::ops::{Deref, DerefMut};
-use std::vec;
+use alloc::boxed::Box;
+use alloc::vec;
+use core::ops::{Deref, DerefMut};
 
 impl Core {
     /// The core of these words, as [`Self::words`] gave them, or any others.

@@ -43,6 +43,11 @@ pub struct Census {
     pub flat: u64,
 }
 
+/// Of counts that anyone may have made.
+fn sum(counts: impl IntoIterator<Item = u64>) -> u64 {
+    counts.into_iter().fold(0, u64::saturating_add)
+}
+
 impl Census {
     /// By the library's counts.
     pub fn of(counts: &Counts) -> Census {
@@ -53,19 +58,19 @@ impl Census {
         }
     }
 
-    /// All pages of the range.
+    /// All pages of the range. Sums end at 2^64 - 1, which none of a core's own comes near.
     pub fn total(&self) -> u64 {
-        self.mapped() + self.faults() + self.flat
+        sum([self.mapped(), self.faults(), self.flat])
     }
 
     /// The pages that are mapped.
     pub fn mapped(&self) -> u64 {
-        self.rights.iter().sum()
+        sum(self.rights)
     }
 
     /// The pages whose walk faults.
     pub fn faults(&self) -> u64 {
-        self.statuses.iter().sum()
+        sum(self.statuses)
     }
 
     /// The pages whose walk ends in this fault.
@@ -76,6 +81,6 @@ impl Census {
     /// The mapped pages that allow all of this. Flat pages, which allow everything, are not among them.
     pub fn allowing(&self, rights: Rights) -> u64 {
         let by_rights = (0..).map(Rights).zip(self.rights);
-        by_rights.filter(|(has, _)| has.has(rights)).map(|(_, n)| n).sum()
+        sum(by_rights.filter(|(has, _)| has.has(rights)).map(|(_, n)| n))
     }
 }

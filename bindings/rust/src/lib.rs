@@ -1,11 +1,11 @@
 //! Stage 1 address translation of the Cortex-A72: the VMSAv8-64 table walk, its cache (TLB), TLBI, AT, loads, stores
 //! and fetches over one or two pages, exception entry, as pimu does them, and a census of how pages are mapped.
 //!
-//! The module [`stage1`] is the text of crates in Rattle, Rust with contracts, in which every function is proved to
-//! meet its contract; the contracts are taken away. The rest of this crate gives it types and names. What rustc makes
-//! of it is run beside pimu's own Rust and beside the library that was proved and compiled as one, operation by
-//! operation: that is tested, and not proved. No unsafe code, no dependency, no allocation but for a core's words in
-//! boxes (feature `std`).
+//! Its module `stage1`, which is for no caller, is the text of crates in Rattle, Rust with contracts, in which every
+//! function is proved to meet its contract; the contracts are taken away. The rest of this crate gives it types and
+//! names. What rustc makes of it is run beside pimu's own Rust, operation by operation, and so, on the same lists, is
+//! the library that was proved and compiled as one: that is tested, and not proved. No unsafe code, no dependency, no
+//! allocation but for a core's words in boxes (feature `alloc`).
 //!
 //! [`embedding`] shows an emulator's use: devices, two cores, faults that the guest takes.
 //!
@@ -67,12 +67,12 @@
 #![forbid(unsafe_code)]
 #![warn(missing_docs)]
 
-#[cfg(feature = "std")]
-extern crate std;
+#[cfg(feature = "alloc")]
+extern crate alloc;
 
 mod answer;
 mod at_hand;
-#[cfg(feature = "std")]
+#[cfg(feature = "alloc")]
 mod boxed;
 mod census;
 mod core;
@@ -85,6 +85,7 @@ mod operation;
 pub mod place;
 mod ram;
 pub mod registers;
+#[doc(hidden)]
 #[allow(missing_docs)]
 pub mod stage1;
 mod system_operation;
@@ -93,7 +94,7 @@ mod walk;
 
 pub use crate::core::Core;
 pub use answer::{Check, Fault, Stop};
-#[cfg(feature = "std")]
+#[cfg(feature = "alloc")]
 pub use boxed::Edit;
 pub use census::{Census, Rights};
 pub use count::MOST_PAGES;

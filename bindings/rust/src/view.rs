@@ -202,8 +202,8 @@ impl Core {
 
     /// A general register, X0 to X30; all others are zero.
     #[inline]
-    pub fn general(&self, number: usize) -> u64 {
-        self.core.reg(number as u64)
+    pub fn general(&self, number: u64) -> u64 {
+        self.core.reg(number)
     }
 
     /// The PC.
@@ -240,7 +240,8 @@ impl Core {
         self.core.last_pa
     }
 
-    /// The physical address of the last external abort.
+    /// The physical address of the last external abort of an access. It stays, also where a device answered
+    /// ([`crate::Memory`]).
     #[inline]
     pub fn abort_pa(&self) -> u64 {
         self.core.abort_pa

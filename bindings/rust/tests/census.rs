@@ -48,6 +48,14 @@ fn every_page_is_counted_once() {
     assert_eq!(flat.allowing(Rights::PRIVILEGED_READ), 0);
 }
 
+/// Counts that no census gives are added up too.
+#[test]
+fn sums_of_any_counts() {
+    let most = counted(&[(0, u64::MAX), (7, 1)], &[(8, u64::MAX), (9, u64::MAX)], 1);
+    assert_eq!((most.total(), most.mapped()), (u64::MAX, u64::MAX));
+    assert_eq!((most.faults(), most.allowing(Rights(8))), (u64::MAX, u64::MAX));
+}
+
 #[test]
 fn refusals() {
     let mut bytes = bytes();

@@ -29,6 +29,24 @@ impl Memory for Board {
     }
 }
 
+/// The same, and a device at every address outside RAM, which reads as its address.
+struct Everywhere(Board);
+
+impl Memory for Everywhere {
+    fn ram(&mut self) -> Ram<'_> {
+        self.0.ram()
+    }
+
+    fn read(&mut self, address: u64, _: Width) -> Option<u64> {
+        Some(address)
+    }
+
+    fn write(&mut self, address: u64, width: Width, value: u64) -> bool {
+        self.0.written.push((address, width, value));
+        true
+    }
+}
+
 fn board() -> Board {
     Board {
         ram: bytes(),
@@ -96,6 +114,79 @@ fn what_no_device_is_asked_for() {
     );
     assert_eq!(core.store_to(&mut ram, 0x1000, Width::Byte, 1), Ok(()));
     assert_eq!(core.fetch_from(&mut ram, 0x1000), Ok(1));
+}
+
+/// An access of one page whose first bytes lie in RAM, or whose last, is no device's: not at RAM's end, and not before
+/// its beginning.
+#[test]
+fn an_access_that_reaches_into_ram_stays_an_abort() {
+    let mut board = board();
+    board.ram.truncate(0xB004);
+    for (page, pa) in [(6, BASE + 0xB000), (7, BASE - 0x1000)] {
+        assert!(board.ram().write_u64(BASE + 0x3000 + 8 * page, pa | 0x403));
+    }
+    let mut everywhere = Everywhere(board);
+    let mut core = core();
+    for (va, width, asked) in [
+        (0x6000, Width::Double, None),
+        (0x6002, Width::Word, None),
+        (0x6003, Width::Half, None),
+        (0x6004, Width::Double, Some(BASE + 0xB004)),
+        (0x7FF8, Width::Double, Some(BASE - 8)),
+        (0x7FFC, Width::Word, Some(BASE - 4)),
+    ] {
+        let stop = (va, 0x10);
+        let read = core.load_from(&mut everywhere, va, width);
+        let wrote = core.store_to(&mut everywhere, va, width, 9);
+        let written = everywhere.0.written.pop();
+        match asked {
+            Some(pa) => assert_eq!((read, wrote, written), (Ok(pa), Ok(()), Some((pa, width, 9)))),
+            None => {
+                assert_eq!((status(read.map(drop)), status(wrote)), (stop, stop));
+                assert_eq!(written, None);
+            }
+        }
+    }
+    assert_eq!(
+        status(core.fetch_from(&mut everywhere, 0x6002).map(drop)),
+        (0x6002, 0x10)
+    );
+    // With stage 1 off an access runs on over a page's end: into RAM from below it.
+    core.set_level(Level::EL3).unwrap();
+    assert_eq!(
+        status(core.load_from(&mut everywhere, BASE - 4, Width::Double).map(drop)),
+        (BASE - 4, 0x10)
+    );
+}
+
+/// With stage 1 off no access is split: a device may answer over the end of 4 KiB. A fetch is split never.
+#[test]
+fn flat_accesses_end_where_they_like() {
+    let (mut board, mut core) = (board(), Core::new());
+    let end = 0x8000_0FFC;
+    assert_eq!(core.load_from(&mut board, end, Width::Double), Ok(end));
+    assert_eq!(core.store_to(&mut board, end, Width::Double, 7), Ok(()));
+    assert_eq!(board.written, [(end, Width::Double, 7)]);
+    assert_eq!(core.fetch_from(&mut board, end + 2), Ok(end as u32 + 2));
+    assert_eq!(
+        status(core.load_from(&mut board, 0x8000_1000, Width::Word).map(drop)),
+        (0x8000_1000, 0x10)
+    );
+}
+
+/// What [`Memory`] does not reach: DC ZVA outside RAM, though a device is there.
+#[test]
+fn dc_zva_zeroes_ram_alone() {
+    let (mut board, mut core) = (board(), core());
+    core.set_general(0, 0x4010).unwrap();
+    assert_eq!(
+        status(core.system(&mut board.ram(), SystemOperation::dc_zva(0))),
+        (0x4000, 0x10)
+    );
+    core.set_general(0, 0x1010).unwrap();
+    assert_eq!(core.store_to(&mut board, 0x1020, Width::Double, 1), Ok(()));
+    assert_eq!(core.system(&mut board.ram(), SystemOperation::dc_zva(0)), Ok(()));
+    assert_eq!(core.load_from(&mut board, 0x1020, Width::Double), Ok(0));
 }
 
 #[test]

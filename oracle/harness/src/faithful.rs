@@ -20,6 +20,8 @@ pub struct Seen {
     pub walked: u64,
     pub cached: u64,
     pub stale_excused: u64,
+    /// Of these the line, the list's first being 1, and the address that was translated.
+    pub stale: Vec<(usize, u64)>,
     pub equal_though_excused: u64,
     pub censuses: u64,
 }
@@ -29,6 +31,8 @@ struct Trial<'a> {
     /// Its registers are those of the core without a cache.
     bare: DocCore,
     past: Past,
+    /// The line that is carried out.
+    line: usize,
     seen: &'a mut Seen,
 }
 
@@ -99,7 +103,10 @@ impl Trial<'_> {
         *count += 1;
         match (got == want, excused) {
             (false, false) => return Err(format!("{}, and no walk excuses it", apart())),
-            (false, true) => self.seen.stale_excused += 1,
+            (false, true) => {
+                self.seen.stale_excused += 1;
+                self.seen.stale.push((self.line, va));
+            }
             (true, true) => self.seen.equal_though_excused += 1,
             (true, false) => {}
         }
@@ -226,9 +233,11 @@ pub fn hold(lines: &[Line], core: &mut dyn Core, seen: &mut Seen) -> Result<(), 
     let mut trial = Trial {
         bare: DocCore::new(),
         past: Past::default(),
+        line: 0,
         seen,
     };
     for (i, line) in lines.iter().enumerate() {
+        trial.line = i + 1;
         trial
             .step(line, core, &mut ram)
             .map_err(|e| format!("line {}: {line}: {e}", i + 1))?;

@@ -34,19 +34,16 @@ fn judged(after: &str, op: Op) -> Judge {
 
 #[test]
 fn a_byte_of_the_first_page_comes_first() {
-    let at = |va, pa| Judge::Crossing(Outside { va, pa });
-    assert_eq!(judged("", Op::Load(0x7FFF_FFFD, 8)), at(0x7FFF_FFFD, 0xBFFF_FFFD));
-    assert_eq!(
-        judged("", Op::Store(0x7FFF_FFF9, 8, 0)),
-        at(0x7FFF_FFFC, 0xBFFF_FFFC)
-    );
-    assert_eq!(judged("", Op::Load(0x7FFF_FFFF, 2)), at(0x7FFF_FFFF, 0xBFFF_FFFF));
+    let at = |va, second| {
+        let pa = va + 0x4000_0000;
+        Judge::Crossing(Outside { va, pa, second })
+    };
+    assert_eq!(judged("", Op::Load(0x7FFF_FFFD, 8)), at(0x7FFF_FFFD, 0x05));
+    assert_eq!(judged("", Op::Store(0x7FFF_FFF9, 8, 0)), at(0x7FFF_FFFC, 0x05));
+    assert_eq!(judged("", Op::Load(0x7FFF_FFFF, 2)), at(0x7FFF_FFFF, 0x05));
     // By a hint, with its table out of RAM.
     let hinted = "tr 1 7ffff000\nreg c100 c0000000";
-    assert_eq!(
-        judged(hinted, Op::Load(0x7FFF_FFFF, 8)),
-        at(0x7FFF_FFFF, 0xBFFF_FFFF)
-    );
+    assert_eq!(judged(hinted, Op::Load(0x7FFF_FFFF, 8)), at(0x7FFF_FFFF, 0x15));
 }
 
 #[test]

@@ -6,10 +6,10 @@ use harness::generate::{trace, Style};
 use harness::rust::{Rule, RustCore};
 use harness::Core;
 
-const USAGE: &str = "faithful FROM TO N [--c | --each | --mistake M | --rule pimu|noflush|noretag]
+const USAGE: &str = "faithful FROM TO N [--c | --each | --mistake M | --rule pimu|noflush|noretag] [--stale]
   Strict traces of the seeds FROM to TO - 1 with about N operations each, on the Rust in its domain (--c: on the core behind the C
   boundary, --each by its functions; --mistake: on the model with that mistake; --rule: on the Rust with another rule
-  of a register write).
+  of a register write). With --stale a line for each answer that is stale and excused: its line in the list, and its address.
   Status 1 where it is broken, or no translation was answered by the cache.";
 
 fn core(args: &Args) -> Box<dyn Core> {
@@ -29,7 +29,7 @@ fn core(args: &Args) -> Box<dyn Core> {
 }
 
 fn main() {
-    let args = Args::new(USAGE, &["--c", "--each"], &["--mistake", "--rule"]);
+    let args = Args::new(USAGE, &["--c", "--each", "--stale"], &["--mistake", "--rule"]);
     let (seeds, n) = args.seeds();
     let mut core = core(&args);
     let mut seen = Seen::default();
@@ -39,6 +39,11 @@ fn main() {
             println!("seed {seed}: {e}");
             held = false;
             break;
+        }
+    }
+    if args.flag("--stale") {
+        for (line, va) in &seen.stale {
+            println!("stale {line} {va:016x}");
         }
     }
     // A list on which the cache answered nothing shows nothing of it.
