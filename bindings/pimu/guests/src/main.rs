@@ -158,9 +158,17 @@ fn main() {
             wander::recorded(number(1, 1), number(2, 1), number(3, 1), &words[4])
         }
         Some("speed") => speed::table(number(1, 4_000_000), words.get(2).map_or("", String::as_str)),
+        Some("loops") => {
+            speed::names();
+            0
+        }
+        Some("turn") if words.len() == 4 => {
+            speed::turn(&words[1], number(2, 0), &words[3]);
+            0
+        }
         Some("mistakes") => mistakes(number(1, 400)),
         _ => {
-            eprintln!("usage: guests directed | random FROM TO STEPS | mistakes SEEDS | record NAME TRACE | recorded FROM TO STEPS TRACE | speed STEPS LOOP");
+            eprintln!("usage: guests directed | random FROM TO STEPS | mistakes SEEDS | record NAME TRACE | recorded FROM TO STEPS TRACE | speed STEPS LOOP | loops | turn SIDE STEPS LOOP");
             std::process::exit(2);
         }
     };
