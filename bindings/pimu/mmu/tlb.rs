@@ -111,6 +111,7 @@ impl Tlb {
     pub fn record(&mut self, path: &str) -> io::Result<()> {
         self.recording = Recording::to(path)?;
         self.core = Core::new();
+        (self.hits, self.walks) = (0, 0);
         self.told = Shape::of(&SysRegs::new(0));
         self.asked = Asked::Nothing;
         self.late.clear();
@@ -267,19 +268,33 @@ impl Tlb {
         self.recording.line(format_args!("mark {}", u8::from(mark)));
     }
 
+    /// The hits of the present level, by one word of the core's: the sum of all would wait for a word just written.
+    #[inline(always)]
+    fn level_hits(&self) -> u64 {
+        let [el0, el1, el2, el3] = self.core.counters().levels;
+        match self.core.level() {
+            0 => el0.hits,
+            1 => el1.hits,
+            2 => el2.hits,
+            _ => el3.hits,
+        }
+    }
+
     /// One translation by the core, where no table is to be read.
     #[inline(always)]
     pub(super) fn at_hand(&mut self, va: u64, kind: Kind) -> Option<Result<u64, u8>> {
+        let before = self.level_hits();
         let answer = self.core.translate_at_hand(va, kind.into())?;
-        self.hits = self.core.counters().hits();
+        self.hits += self.level_hits() - before;
         Some(answer.map_err(|Status(fsc)| fsc))
     }
 
     /// The same of a fetch, and the core's hint.
     #[inline(always)]
     pub(super) fn fetch_at_hand(&mut self, va: u64) -> Option<Result<u64, u8>> {
+        let before = self.level_hits();
         let answer = self.core.fetch_at_hand(va)?;
-        self.hits = self.core.counters().hits();
+        self.hits += self.level_hits() - before;
         Some(answer.map_err(|Status(fsc)| fsc))
     }
 
