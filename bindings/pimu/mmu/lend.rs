@@ -1,5 +1,6 @@
 //! RAM, lent by the bus to the core for one operation.
-use std::cell::RefCell;
+use std::cell::Cell;
+use std::mem::{take, ManuallyDrop};
 
 use crate::aarch64::Memory;
 use a72::Ram;
@@ -8,18 +9,12 @@ use a72::Ram;
 /// has it: keys have 16 bits.
 const LEND: u32 = u32::MAX;
 
-/// RAM away from its bus, and the physical address of its first byte.
-struct Lent {
-    base: u64,
-    bytes: Vec<u8>,
-    /// Whether a bus lent it: what has no RAM is not taken for RAM of no bytes.
-    here: bool,
-}
+/// RAM away from its bus: the physical address of its first byte, and the bytes. They are never dropped here, the bus
+/// takes them back; so the thread has nothing to tidy, and makes no check for that at each use.
+type Lent = (u64, ManuallyDrop<Vec<u8>>);
 
 thread_local! {
-    static LENT: RefCell<Lent> = const {
-        RefCell::new(Lent { base: 0, bytes: Vec::new(), here: false })
-    };
+    static LENT: Cell<Option<Lent>> = const { Cell::new(None) };
 }
 
 /// What a bus calls first in its `Memory::sysreg_write`: its RAM, which begins at physical address `base`, is handed to
@@ -32,15 +27,11 @@ where
     if key != LEND {
         return false;
     }
-    LENT.with_borrow_mut(|lent| {
-        lent.here = value == 1;
-        if lent.here {
-            lent.base = base;
-            lent.bytes = std::mem::take(ram).into();
-        } else {
-            *ram = std::mem::take(&mut lent.bytes).into();
-        }
-    });
+    if value == 1 {
+        LENT.set(Some((base, ManuallyDrop::new(take(ram).into()))));
+    } else if let Some((_, bytes)) = LENT.take() {
+        *ram = ManuallyDrop::into_inner(bytes).into();
+    }
     true
 }
 
@@ -48,13 +39,10 @@ where
 #[inline]
 pub(super) fn with_ram<M: Memory + ?Sized, T>(mem: &mut M, ask: impl FnOnce(&mut Ram) -> T) -> T {
     mem.sysreg_write(LEND, 1);
-    let answer = LENT.with_borrow_mut(|lent| {
-        assert!(
-            lent.here,
-            "the bus lends no RAM: its sysreg_write calls mmu::lends"
-        );
-        ask(&mut Ram::new(lent.base, &mut lent.bytes))
-    });
+    let lent = LENT.take();
+    let (base, mut bytes) = lent.expect("the bus lends no RAM: its sysreg_write calls mmu::lends");
+    let answer = ask(&mut Ram::new(base, &mut bytes));
+    LENT.set(Some((base, bytes)));
     mem.sysreg_write(LEND, 0);
     answer
 }

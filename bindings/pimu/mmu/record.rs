@@ -86,9 +86,11 @@ impl Recording {
             Inval::Page(page) if tcr >> 14 & 3 == 0 && tcr >> 30 & 3 == 2 => at(0, 1, page),
             Inval::Page(page) if four_k(registers::TCR_EL2) => at(4, 1, page),
             Inval::Page(page) if four_k(registers::TCR_EL3) => at(6, 1, page),
-            Inval::Asid(asid) if tcr >> 36 & 1 == 1 || asid <= 0xFF => at(0, 2, u64::from(asid) << 48),
-            // No TLBI asks for less: of such the trace drops more than the run did.
-            Inval::All | Inval::Page(_) | Inval::Asid(_) => at(0, 0, 0),
+            // Where ASIDs have eight bits no entry has such a one: the hints drop.
+            Inval::Asid(asid) if asid > 0xFF && tcr >> 36 & 1 == 0 => return self.hints_dropped(core),
+            Inval::Asid(asid) => at(0, 2, u64::from(asid) << 48),
+            // No TLBI asks for less than all: of such a page the trace drops more than the run did.
+            Inval::All | Inval::Page(_) => at(0, 0, 0),
         };
         self.at_level(core, (op1 / 2).max(1), |trace| {
             trace.line(format_args!("x 0 {xt:x}"));

@@ -29,15 +29,13 @@ impl Shape {
         }
     }
 
-    /// Whether the registers that every access reads are these.
-    #[inline]
-    pub(super) fn is(&self, s: &SysRegs) -> bool {
-        self.sctlr == s.sctlr
-            && self.tcr == s.tcr
-            && self.ttbr0 == s.ttbr0
-            && self.ttbr1_el1 == s.ttbr1_el1
-            && self.scr_el3 == s.scr_el3
-            && self.hcr_el2 == s.hcr_el2
+    /// Whether the registers that an access in this regime reads are these.
+    #[inline(always)]
+    pub(super) fn is(&self, s: &SysRegs, regime: u32) -> bool {
+        let r = regime as usize & 3;
+        let own = self.sctlr[r] ^ s.sctlr[r] | self.tcr[r] ^ s.tcr[r] | self.ttbr0[r] ^ s.ttbr0[r];
+        let all = self.ttbr1_el1 ^ s.ttbr1_el1 | self.scr_el3 ^ s.scr_el3 | self.hcr_el2 ^ s.hcr_el2;
+        own | all == 0
     }
 }
 

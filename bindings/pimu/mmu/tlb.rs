@@ -111,6 +111,7 @@ impl Tlb {
     pub fn record(&mut self, path: &str) -> io::Result<()> {
         self.recording = Recording::to(path)?;
         self.core = Core::new();
+        (self.hits, self.walks) = (0, 0);
         self.told = Shape::of(&SysRegs::new(0));
         self.asked = Asked::Nothing;
         self.late.clear();
@@ -197,10 +198,11 @@ impl Tlb {
         });
     }
 
-    /// Tell the core what pimu's registers, level and mark are, where that is not what it was told.
-    #[inline]
+    /// Tell the core what pimu's registers, level and mark are, where that is not what it was told. Of the registers those
+    /// count that the level's regime reads.
+    #[inline(always)]
     pub(super) fn tell(&mut self, s: &SysRegs, el: u32, mark: bool) {
-        if self.asked != Asked::Nothing || !self.told.is(s) {
+        if self.asked != Asked::Nothing || !self.told.is(s, el.max(1)) {
             self.tell_registers(s);
         }
         if self.core.level() != u64::from(el) {
@@ -211,9 +213,12 @@ impl Tlb {
         }
     }
 
-    /// The same, and `MAIR`.
-    pub(super) fn tell_all(&mut self, s: &SysRegs, el: u32, mark: bool) {
-        if self.told.mair != s.mair {
+    /// The same for `AT` in this regime, which reads `MAIR` too.
+    #[inline]
+    pub(super) fn tell_at(&mut self, s: &SysRegs, el: u32, mark: bool, regime: u8) {
+        let r = usize::from(regime & 3);
+        let other = u32::from(regime) != el.max(1);
+        if self.told.mair[r] != s.mair[r] || other && !self.told.is(s, regime.into()) {
             self.tell_registers(s);
         }
         self.tell(s, el, mark);
@@ -249,6 +254,7 @@ impl Tlb {
         self.hints = !self.recording.is_on();
     }
 
+    #[inline(never)]
     fn tell_level(&mut self, el: u32) {
         self.core
             .set_level(Level::from(u64::from(el)))
@@ -256,24 +262,39 @@ impl Tlb {
         self.recording.line(format_args!("level {el:x}"));
     }
 
+    #[inline(never)]
     fn tell_mark(&mut self, mark: bool) {
         self.core.set_unprivileged(mark).expect("pimu's level is 0 to 3");
         self.recording.line(format_args!("mark {}", u8::from(mark)));
     }
 
+    /// The hits of the present level, by one word of the core's: the sum of all would wait for a word just written.
+    #[inline(always)]
+    fn level_hits(&self) -> u64 {
+        let [el0, el1, el2, el3] = self.core.counters().levels;
+        match self.core.level() {
+            0 => el0.hits,
+            1 => el1.hits,
+            2 => el2.hits,
+            _ => el3.hits,
+        }
+    }
+
     /// One translation by the core, where no table is to be read.
-    #[inline]
+    #[inline(always)]
     pub(super) fn at_hand(&mut self, va: u64, kind: Kind) -> Option<Result<u64, u8>> {
+        let before = self.level_hits();
         let answer = self.core.translate_at_hand(va, kind.into())?;
-        self.hits = self.core.counters().hits();
+        self.hits += self.level_hits() - before;
         Some(answer.map_err(|Status(fsc)| fsc))
     }
 
     /// The same of a fetch, and the core's hint.
-    #[inline]
+    #[inline(always)]
     pub(super) fn fetch_at_hand(&mut self, va: u64) -> Option<Result<u64, u8>> {
+        let before = self.level_hits();
         let answer = self.core.fetch_at_hand(va)?;
-        self.hits = self.core.counters().hits();
+        self.hits += self.level_hits() - before;
         Some(answer.map_err(|Status(fsc)| fsc))
     }
 
@@ -297,6 +318,7 @@ impl Tlb {
     }
 
     /// `AT` by the core: what it leaves in `PAR_EL1`.
+    #[inline(always)]
     pub(super) fn at(&mut self, ram: &mut Ram, operation: SystemOperation, va: u64) -> u64 {
         self.core.set_general(0, va).expect("a general register");
         self.core.system(ram, operation).expect("exec judged the level");
@@ -307,13 +329,16 @@ impl Tlb {
             op2,
             rt,
         } = operation;
-        self.recording.line(format_args!("x 0 {va:x}"));
-        self.recording
-            .line(format_args!("sys {op1:x} {crn:x} {crm:x} {op2:x} {rt:x}"));
+        if self.records() {
+            self.recording.line(format_args!("x 0 {va:x}"));
+            self.recording
+                .line(format_args!("sys {op1:x} {crn:x} {crm:x} {op2:x} {rt:x}"));
+        }
         self.core.register(registers::PAR_EL1).unwrap_or(0)
     }
 
     /// Whether accesses are recorded.
+    #[inline(always)]
     pub(super) fn records(&self) -> bool {
         self.recording.is_on()
     }

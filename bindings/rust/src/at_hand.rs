@@ -8,7 +8,7 @@ impl Core {
     /// [`Core::translate`] where nothing is walked: by a hint, with stage 1 off, or by an entry of the cache; of a fault the
     /// status. `None` where the tables are to be walked, or the level is above 3: nothing was changed, and `translate` does
     /// it all.
-    #[inline]
+    #[inline(always)]
     pub fn translate_at_hand(&mut self, va: u64, access: Access) -> Option<Result<u64, Status>> {
         let kind = match access {
             Access::Read => Kind::Read,
@@ -24,7 +24,7 @@ impl Core {
 
     /// The physical address that [`Core::fetch`] reads, where nothing is walked; the fetch hint becomes its page. `None` as
     /// for [`Core::translate_at_hand`].
-    #[inline]
+    #[inline(always)]
     pub fn fetch_at_hand(&mut self, va: u64) -> Option<Result<u64, Status>> {
         let level = self.core.privilege.level;
         let answer = match self.core.tlb.by_fetch_hint(level, va) {

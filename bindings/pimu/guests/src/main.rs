@@ -1,5 +1,6 @@
 //! Guests on pimu as published and on pimu on the proved core, side by side.
 mod accesses;
+mod apart;
 mod bus;
 mod directed;
 mod encode;
@@ -16,7 +17,7 @@ mod world;
 
 use pair::Pair;
 use scene::Guest;
-use side::Side;
+use side::{Ended, Side};
 
 use std::sync::atomic::Ordering;
 
@@ -43,7 +44,9 @@ fn play<B: Side>(guest: &Guest, record: Option<&str>) -> Result<u64, String> {
         } else {
             1
         };
-        pair.step(turn)?;
+        if let end @ (Ended::Vector | Ended::Flat) = pair.step(turn)? {
+            return Err(format!("ends in {end:?}"));
+        }
     }
     pair.finish()?;
     pair.b[0].end_recording();
@@ -100,7 +103,7 @@ fn record(name: &str, path: &str) -> usize {
     wrong
 }
 
-/// Each mistake of mistakes.txt: the first guest that shows it. How many none does.
+/// Each mistake of mistakes.txt: the first guest that shows it, also where it ends with that step. How many none does.
 fn mistakes(seeds: u64) -> usize {
     let list = include_str!("../../mistakes.txt");
     let names: Vec<&str> = list
@@ -118,12 +121,25 @@ fn mistakes(seeds: u64) -> usize {
             .filter(|g| play::<Mistaken>(g, None).is_err())
             .map(|g| g.name)
             .collect();
-        let seed = (1..seeds).find(|seed| wander::seed::<Mistaken>(*seed, 4000).differs.is_some());
-        if caught.is_empty() && seed.is_none() {
+        let differs = |seed| {
+            let way = wander::seed::<Mistaken>(seed, 4000);
+            way.differs.is_some().then_some((seed, way.steps))
+        };
+        let seed = (1..seeds).find_map(differs);
+        // A guest whose last step alone shows it shows it too.
+        let last = seed.is_none_or(|(seed, steps)| wander::seed::<Mistaken>(seed, steps).differs.is_some());
+        if caught.is_empty() && seed.is_none() || !last {
             missed += 1;
         }
-        let seed = seed.map_or("no seed".into(), |seed| format!("seed {seed}"));
-        println!("{n:2} {name}: {} directed, {seed}", caught.len());
+        let seed = seed.map_or("no seed".into(), |(seed, steps)| {
+            format!("seed {seed}, step {steps}")
+        });
+        let last = if last {
+            ""
+        } else {
+            ", MISSED where that step is the last"
+        };
+        println!("{n:2} {name}: {} directed, {seed}{last}", caught.len());
     }
     println!("{} of {} mistakes caught", names.len() - missed, names.len());
     missed
@@ -142,9 +158,17 @@ fn main() {
             wander::recorded(number(1, 1), number(2, 1), number(3, 1), &words[4])
         }
         Some("speed") => speed::table(number(1, 4_000_000), words.get(2).map_or("", String::as_str)),
+        Some("loops") => {
+            speed::names();
+            0
+        }
+        Some("turn") if words.len() == 4 => {
+            speed::turn(&words[1], number(2, 0), &words[3]);
+            0
+        }
         Some("mistakes") => mistakes(number(1, 400)),
         _ => {
-            eprintln!("usage: guests directed | random FROM TO STEPS | mistakes SEEDS | record NAME TRACE | recorded FROM TO STEPS TRACE | speed STEPS LOOP");
+            eprintln!("usage: guests directed | random FROM TO STEPS | mistakes SEEDS | record NAME TRACE | recorded FROM TO STEPS TRACE | speed STEPS LOOP | loops | turn SIDE STEPS LOOP");
             std::process::exit(2);
         }
     };

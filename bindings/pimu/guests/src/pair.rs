@@ -1,9 +1,8 @@
 //! Two pimus on one guest: every step is made by both, and all that they show is compared.
+use crate::apart::one;
 use crate::bus::{Bus, Event};
-use crate::encode::PAR_EL1;
 use crate::side::{Cache, Counts, Ended, Side};
 use std::collections::BTreeMap;
-use std::panic::{catch_unwind, AssertUnwindSafe};
 
 pub type Published = pimu::aarch64::Cpu;
 
@@ -31,13 +30,6 @@ fn same<T: PartialEq + std::fmt::Debug>(what: &str, a: &T, b: &T) -> Result<(), 
         return Ok(());
     }
     Err(format!("{what}\n  published {a:x?}\n  proved    {b:x?}"))
-}
-
-fn one(core: &mut impl Side, word: Option<u32>, bus: &mut Bus) -> Ended {
-    match word {
-        None => Side::step(core, bus),
-        Some(word) => core.inject(word, bus),
-    }
 }
 
 impl<B: Side> Pair<B> {
@@ -76,45 +68,28 @@ impl<B: Side> Pair<B> {
     }
 
     fn both(&mut self, n: usize, word: Option<u32>) -> Result<Ended, String> {
-        let (a, b) = (&mut self.a[n], &mut self.b[n]);
-        let (pc, flat) = (a.pc(), a.flat());
-        let Ok(ended) = catch_unwind(AssertUnwindSafe(|| one(a, word, &mut self.bus_a))) else {
-            return Ok(Ended::Vector);
-        };
-        let other = catch_unwind(AssertUnwindSafe(|| one(b, word, &mut self.bus_b)));
-        let other = other.map_err(|_| format!("core {n} panics at {pc:x}, on the proved core alone"))?;
         self.steps += 1;
-        if self.device_table(n, &other) {
-            return Ok(Ended::DeviceTable);
-        }
-        if flat && self.flat_address(n, &ended) {
+        let pc = self.a[n].pc();
+        let ended = self.made(n, word, pc);
+        ended.map_err(|e| format!("step {} of core {n} at {pc:x}: {e}", self.steps))
+    }
+
+    fn made(&mut self, n: usize, word: Option<u32>, pc: u64) -> Result<Ended, String> {
+        let before = self.before(n);
+        let other =
+            one(&mut self.b[n], word, &mut self.bus_b).map_err(|e| format!("the proved core: {e}"))?;
+        let ended = match self.without_device(n, word, &other) {
+            Some(ended) => ended,
+            None => one(&mut self.a[n], word, &mut self.bus_a).map_err(|e| format!("published: {e}"))?,
+        };
+        if self.flat_access(n, &before, &ended)? {
             return Ok(Ended::Flat);
         }
-        self.compare(n, &ended, &other)
-            .map_err(|e| format!("step {} of core {n} at {pc:x}: {e}", self.steps))?;
+        self.flat_at(n, word, pc);
+        self.compare(n, &ended, &other)?;
         self.tally(&ended);
         self.spread(n);
         Ok(ended)
-    }
-
-    /// Whether this step's access, or its AT, was of an address from 2^44 on, where stage 1 is off.
-    fn flat_address(&self, n: usize, ended: &Ended) -> bool {
-        let par = |plain: &BTreeMap<u32, u64>| plain.get(&PAR_EL1).copied();
-        let (a, b) = (par(self.a[n].plain()), par(self.b[n].plain()));
-        matches!(ended, Ended::Took((5 | 6, 0x1000_0000_0000.., ..))) || a != b && b == Some(0x801)
-    }
-
-    /// Whether this step's walk read a table where a device is: the published one asked it, the proved one ended in an
-    /// external abort, taken or in PAR_EL1.
-    fn device_table(&self, n: usize, other: &Ended) -> bool {
-        let reads = |log: &[Event]| log.iter().filter(|e| e.what == 'd').count();
-        let external = |status: u64| (0x14..0x18).contains(&status);
-        let par = self.b[n].plain().get(&PAR_EL1).copied().unwrap_or(0);
-        reads(&self.bus_a.log) > reads(&self.bus_b.log)
-            && match other {
-                Ended::Took((5 | 6, _, _, fsc)) => external((*fsc).into()),
-                _ => par & 1 != 0 && external(par >> 1 & 63),
-            }
     }
 
     fn compare(&mut self, n: usize, ended: &Ended, other: &Ended) -> Result<(), String> {
@@ -159,7 +134,7 @@ impl<B: Side> Pair<B> {
             Ended::Interrupt => "interrupt".into(),
             Ended::Unimplemented(_) => "unimplemented".into(),
             Ended::Unsupported => "unsupported".into(),
-            Ended::Vector | Ended::DeviceTable | Ended::Flat => return,
+            Ended::Vector | Ended::Flat => return,
         };
         *self.seen.entry(what).or_default() += 1;
     }
@@ -199,19 +174,22 @@ impl<B: Side> Pair<B> {
 
     /// At the end: RAM, and every core's entries and hints.
     pub fn finish(&mut self) -> Result<(), String> {
-        if self.bus_a.ram != self.bus_b.ram {
-            let at = self
-                .bus_a
-                .ram
-                .iter()
-                .zip(&self.bus_b.ram)
-                .position(|(a, b)| a != b);
-            return Err(format!(
-                "RAM differs at {:x}",
-                self.bus_a.base + at.unwrap_or(0) as u64
-            ));
+        self.same_ram(&self.bus_a.ram, &self.bus_b.ram)?;
+        self.same_caches(|_| true)
+    }
+
+    pub fn same_ram(&self, a: &[u8], b: &[u8]) -> Result<(), String> {
+        if a == b {
+            return Ok(());
         }
-        for (a, b) in self.a.iter().zip(&self.b).filter(|(_, b)| b.settled()) {
+        let at = a.iter().zip(b).position(|(a, b)| a != b).unwrap_or(0) as u64;
+        Err(format!("RAM differs at {:x}", self.bus_a.base + at))
+    }
+
+    /// The entries and hints of such cores.
+    pub fn same_caches(&self, of: impl Fn(usize) -> bool) -> Result<(), String> {
+        let cores = self.a.iter().zip(&self.b).enumerate();
+        for (_, (a, b)) in cores.filter(|(n, (_, b))| of(*n) && b.settled()) {
             same_cache(a, b)?;
         }
         Ok(())
@@ -219,7 +197,7 @@ impl<B: Side> Pair<B> {
 }
 
 /// Entries that may answer, data hints, the ASID.
-fn same_cache(a: &impl Cache, b: &impl Cache) -> Result<(), String> {
+pub fn same_cache(a: &impl Cache, b: &impl Cache) -> Result<(), String> {
     same("the cache's ASID", &a.asid(), &b.asid())?;
     for slot in 0..HINTS {
         let (x, y) = (a.hint(slot), b.hint(slot));

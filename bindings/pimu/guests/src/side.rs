@@ -13,9 +13,7 @@ pub enum Ended {
     Unsupported,
     /// A vector instruction, which pimu's stub does not have.
     Vector,
-    /// A table in a device's page: pimu's walk reads the device, the proved core's does not.
-    DeviceTable,
-    /// An address from 2^44 on with stage 1 off: pimu takes it as it is, the proved core as the manual has it.
+    /// An access from 2^44 on with stage 1 off: pimu takes the address as it is, the proved core as the manual has it.
     Flat,
 }
 

@@ -161,6 +161,27 @@ fn booted<S: Side>(l: &Loop, host: bool) -> (S, Bus) {
     (core, bus)
 }
 
+/// So many steps of one loop on one side (published, proved, host), for a count of instructions.
+pub fn turn(side: &str, steps: u64, name: &str) {
+    fn of<S: Side>(l: &Loop, host: bool, steps: u64) {
+        let (mut core, mut bus) = booted::<S>(l, host);
+        run(&mut core, &mut bus, steps);
+    }
+    for l in loops().iter().filter(|l| l.name == name) {
+        match side {
+            "proved" => of::<proved::aarch64::Cpu>(l, false, steps),
+            _ => of::<pimu::aarch64::Cpu>(l, side == "host", steps),
+        }
+    }
+}
+
+/// The names of the loops.
+pub fn names() {
+    for l in loops() {
+        println!("{}", l.name);
+    }
+}
+
 /// The table, of the loops with a piece in their names; how many loops end otherwise on one side than on another.
 pub fn table(steps: u64, only: &str) -> usize {
     println!(
