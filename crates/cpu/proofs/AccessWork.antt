@@ -22,12 +22,11 @@ module _ (c : Core) (memory : ℕ → Option ℕ) (va n : ℕ) (kind : Kind) (w 
   works_by b = works (access_at (bank_now c) c.privilege memory) (asks_by b va kind) c.tlb w
 
   -- where the first translation faults it is the only one
-  pub first-work : (f : Fault) → (translate_of c memory va kind).answer ≡ Err f → translate_work c memory va kind w ≡ access_work c memory va n kind w
+  pub first_work : (f : Fault) → (translate_of c memory va kind).answer ≡ Err f → translate_work c memory va kind w ≡ access_work c memory va n kind w
   unfolding translate_of stepped_now translate_in translate_work access_work
-  first-work f e = go (crosses (on_now c) va n)
+  first_work f e = go (crosses (on_now c) va n)
     where
       go : (b : Bool) → translate_work c memory va kind w ≡ works_by b
-      unfolding translate_work
       go true = rw e
       go false = rw e
 
@@ -41,4 +40,11 @@ module _ (c : Core) (memory : ℕ → Option ℕ) (va n : ℕ) (kind : Kind) (w 
   unfolding translate_of stepped_now translate_in translate_work access_work after_access
   both-work pa e k = rw (k, e) (sym (onward-same _ _))
 
-pub ruleset access_works = (first-work, both-work)
+  -- the same of the code's values
+  pub second-work : (r : Translated) (v u : Work) (pa next m : ℕ) (on k : Bool) → r ≡ translate_of c memory va kind → v ≡ translate_work c memory va kind w
+      → r.answer ≡ Ok pa → on ≡ on_now c → m ≡ n → k ≡ crosses on va m → k ≡ true → next ≡ next_page va
+      → u ≡ translate_work r.core memory next kind v → u ≡ access_work c memory va n kind w
+  second-work r v u pa next m on k er ev e eo em ek k1 en eu =
+      eu
+      ∙ (λ i. translate_work (er i).core memory (en i) kind (ev i))
+      ∙ both-work pa (ap (λ (x : Translated). x.answer) (sym er) ∙ e) ((λ i. crosses (sym eo i) va (sym em i)) ∙ sym ek ∙ k1)
