@@ -1,15 +1,13 @@
 -- How many descriptors a call reads.
-use Rattle.std.specs.Prelude.{◌≡◌, ℕ, zero, suc, ◌+◌, ◌^◌, ◌<◌, ◌≤◌, Bool, true, false, List, Option, Some, None}
-use Rattle.std.proofs.Common.{refl, ap, ◌∙◌, le_trans, arith}
+use Rattle.std.specs.Prelude.{◌≡◌, ℕ, zero, suc, ◌≤◌, true, false, List, Option, Some, None}
+use Rattle.std.proofs.Common.{refl, le_trans, arith}
 use Rattle.word.specs.Bits.{align_down}
 use Rattle.word.specs.Ram.{word_at, width_of, bytes_in}
 use Rattle.word.specs.declared.ram.Width.{Width}
 use Rattle.walk.specs.Fetches.{fresh_reads}
 use Rattle.walk.specs.Regime.{bank_of}
-use Rattle.system.specs.declared.{decode.AtForm.AtForm, decode.Encoding.Encoding, decode.SysOp.SysOp}
-use Rattle.system.specs.declared.decode.SysOp.TheVariants as SysOp
-use Rattle.tlb.specs.Live.{WellFormed}
-use Rattle.tlb.specs.Work.{no_work, read_more}
+use Rattle.system.specs.declared.{decode.AtForm.AtForm, decode.SysOp.SysOp}
+use Rattle.tlb.specs.Work.{no_work}
 use Rattle.tlb.specs.declared.work.Work.{Work}
 use Rattle.tlb.specs.declared.access.Kind.TheVariants.{Read, Write}
 use Rattle.cpu.specs.Core.{reg_of}

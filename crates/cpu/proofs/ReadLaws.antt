@@ -1,6 +1,6 @@
 -- How many descriptors an access, a zeroing and a call read.
 use Rattle.std.specs.Prelude.{if◌then◌else◌, ◌≡◌, ℕ, zero, suc, ◌+◌, ◌*◌, ◌/◌, ◌%◌, ◌^◌, ◌<◌, ◌≤◌, ◌==◌, Bool, true, false, List, length, Option, Some, None, Ok, Err}
-use Rattle.std.proofs.Common.{refl, sym, ap, ◌∙◌, le_trans, mod-eq_of_lt, arith}
+use Rattle.std.proofs.Common.{refl, ap, ◌∙◌, le_trans, mod-eq_of_lt, arith}
 use borrow.Author.Tests.{eq-eqb}
 use Rattle.word.specs.Bits.{align_down, wrap}
 use Rattle.word.specs.Ram.{word_at}
@@ -12,16 +12,15 @@ use Rattle.walk.specs.Table.{range_of, levels_of}
 use Rattle.walk.proofs.FetchLaws.{few-fetches}
 use Rattle.walk.specs.declared.regime.Bank.{Bank}
 use Rattle.sysreg.specs.declared.regs.Regime.{Regime}
-use Rattle.tlb.specs.Access.{may_hint}
 use Rattle.tlb.specs.Answers.{Answer}
-use Rattle.tlb.specs.Asks.{translates, onward, answer_of, tlb_ask, works}
+use Rattle.tlb.specs.Asks.{onward, works}
 use Rattle.tlb.specs.Entry.{slot_of}
 use Rattle.tlb.specs.Hint.{data_slot, hint_key, fetch_found, on_page}
 use Rattle.tlb.specs.Live.{WellFormed}
 use Rattle.tlb.specs.Model.{Access}
 use Rattle.tlb.specs.Tlb.{entry_at, hint_at, get_of}
 use Rattle.tlb.specs.Translate.{access_of, tag_in, hint_in, tlb_after, translation_in}
-use Rattle.tlb.specs.Work.{no_work, read_more, needs_walk, work_tried, work_in, fetch_work_in}
+use Rattle.tlb.specs.Work.{no_work, read_more, needs_walk, work_tried, work_in}
 use Rattle.tlb.proofs.Asks.{onward-same}
 use Rattle.tlb.proofs.Works.{nothing-read}
 use Rattle.tlb.specs.declared.{access.Kind.Kind, access.Privilege.Privilege, hint.Hint.Hint, work.Work.Work, Tlb.Tlb}
@@ -33,7 +32,7 @@ use Rattle.cpu.specs.Core.{bank_now}
 use Rattle.cpu.specs.Memory.{write_of, ram_after_write}
 use Rattle.cpu.specs.OpLaws.{on_now, store as storing}
 use Rattle.cpu.specs.Place.{next_page, crosses}
-use Rattle.cpu.specs.Reads.{read_by, sum_read, SumsReads, FewReads, ZeroingFew, ZeroingByFirst}
+use Rattle.cpu.specs.Reads.{sum_read, SumsReads, FewReads, ZeroingFew, ZeroingByFirst}
 use Rattle.cpu.specs.System.{on_stored}
 use Rattle.cpu.specs.Work.{translate_work, fetch_work, access_work, write_work, zero_work}
 use Rattle.cpu.specs.declared.Core.{Core}

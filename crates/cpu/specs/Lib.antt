@@ -40,6 +40,7 @@ pub mod Work
 pub mod Reads
 pub mod Inspect
 pub mod Cases
+pub mod ReadCases
 pub mod EveryCallEnds
 pub mod Setters
 -- Of two pages the lowest failing byte decides.

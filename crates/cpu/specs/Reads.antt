@@ -5,7 +5,6 @@ use Rattle.word.specs.Ram.{word_at}
 use Rattle.walk.specs.Fetches.{fresh_reads}
 use Rattle.walk.specs.Regime.{bank_of}
 use Rattle.system.specs.declared.{decode.AtForm.AtForm, decode.Encoding.Encoding, decode.SysOp.SysOp}
-use Rattle.system.specs.declared.decode.SysOp.TheVariants as SysOp
 use Rattle.tlb.specs.Asks.{Ask, onward, answer_of, tlb_ask, work_of}
 use Rattle.tlb.specs.Live.{WellFormed}
 use Rattle.tlb.specs.Model.{Access}
@@ -17,7 +16,7 @@ use Rattle.cpu.specs.OpLaws.{on_now}
 use Rattle.cpu.specs.Place.{crosses}
 use Rattle.cpu.specs.Step.{missed_by}
 use Rattle.cpu.specs.System.{op_of}
-use Rattle.cpu.specs.Work.{access_work, write_work, zero_work, at_work, step_work}
+use Rattle.cpu.specs.Work.{access_work, write_work, zero_work, step_work}
 use Rattle.cpu.specs.declared.Core.{Core}
 use Rattle.cpu.specs.declared.call.Call.{Call}
 use Rattle.cpu.specs.declared.call.Call.TheVariants.{Translate, DataPa, FetchPa, Load as LoadCall, Store as StoreCall, Fetch, System}
