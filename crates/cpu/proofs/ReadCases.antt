@@ -5,8 +5,8 @@ use Rattle.sysreg.specs.Regs.{fresh_sys}
 use Rattle.walk.specs.Fetches.{fetches_of, fetches_range, fetches_from, fresh_reads}
 use Rattle.walk.specs.Tag.{untagged}
 use Rattle.walk.specs.Size.{pa_size}
-use Rattle.walk.specs.Table.{range_of, params_of, table_next, leaf_permissions, leaf_translation, leaf_result, level_next, descaddr, lookup_next, walk_from, walk_range}
-use Rattle.walk.specs.Table.{table_walk}
+use Rattle.walk.specs.Table.{range_of, params_of, table_next, leaf_permissions, leaf_translation, leaf_result, level_next, descaddr, lookup_next}
+use Rattle.walk.specs.Table.{walk_from, walk_range, table_walk}
 use Rattle.walk.specs.Walk.{walk_of}
 use Rattle.tlb.specs.Access.{judged}
 use Rattle.tlb.specs.Tlb.{blanks, no_hints, get_of, put_of}
@@ -35,16 +35,16 @@ unfolding at step_work run_work translate_work sys_work at_work fresh_reads fetc
 read-cases = refl
 
 pub worked-reads : WorkedReads
-unfolding deep at step_work run_work translate_work access_work fetches_of fetches_range fetches_from needs_walk missed_of step_of run_of translate_of stepped_now
-    translation_of set_mark fresh_sys reg_of after_access judged blanks no_hints no_tallies place_of get_of put_of miss_in walked_in walk_of table_walk walk_range
-    walk_from lookup_next level_next table_next leaf_result leaf_translation leaf_permissions descaddr range_of params_of pa_size untagged word_at little_endian
-    bytes_of
+unfolding deep at step_work run_work translate_work access_work fetches_of fetches_range fetches_from needs_walk missed_of step_of run_of translate_of
+    stepped_now translation_of set_mark fresh_sys reg_of after_access judged blanks no_hints no_tallies place_of get_of put_of miss_in walked_in walk_of
+    table_walk walk_range walk_from lookup_next level_next table_next leaf_result leaf_translation leaf_permissions descaddr range_of params_of pa_size
+    untagged word_at little_endian bytes_of
 worked-reads = refl
 
 pub reads-of-calls : ReadsOfCalls
-unfolding deep at step_work run_work translate_work fetch_work access_work zero_work sys_work at_work fresh_reads fetches_of fetches_range fetches_from needs_walk
-    missed_of step_of run_of translate_of stepped_now translation_of located_now located_of write_of ram_after_write store_end store_ram_end verdict_of store_ram
-    stored fresh_sys reg_of after_access named decode_of judged blanks no_hints no_tallies place_of get_of put_of miss_in walked_in walk_of table_walk walk_range
-    walk_from lookup_next level_next table_next leaf_result leaf_translation leaf_permissions descaddr range_of params_of pa_size untagged word_at little_endian
-    bytes_of
+unfolding deep at step_work run_work translate_work fetch_work access_work zero_work sys_work at_work fresh_reads fetches_of fetches_range fetches_from
+    needs_walk missed_of step_of run_of translate_of stepped_now translation_of located_now located_of write_of ram_after_write store_end store_ram_end
+    verdict_of store_ram stored fresh_sys reg_of after_access named decode_of judged blanks no_hints no_tallies place_of get_of put_of miss_in walked_in
+    walk_of table_walk walk_range walk_from lookup_next level_next table_next leaf_result leaf_translation leaf_permissions descaddr range_of params_of
+    pa_size untagged word_at little_endian bytes_of
 reads-of-calls = refl

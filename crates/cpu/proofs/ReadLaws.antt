@@ -1,5 +1,6 @@
 -- How many descriptors an access, a zeroing and a call read.
-use Rattle.std.specs.Prelude.{if◌then◌else◌, ◌≡◌, ℕ, zero, suc, ◌+◌, ◌*◌, ◌/◌, ◌%◌, ◌^◌, ◌<◌, ◌≤◌, ◌==◌, Bool, true, false, List, length, Option, Some, None, Ok, Err}
+use Rattle.std.specs.Prelude.{if◌then◌else◌, ◌≡◌, ℕ, zero, suc, ◌+◌, ◌*◌, ◌/◌, ◌%◌, ◌^◌, ◌<◌, ◌≤◌, ◌==◌, Bool, true, false, List, length, Option}
+use Rattle.std.specs.Prelude.{Some, None, Ok, Err}
 use Rattle.std.proofs.Common.{refl, ap, ◌∙◌, le_trans, mod-eq_of_lt, arith}
 use borrow.Author.Tests.{eq-eqb}
 use Rattle.word.specs.Bits.{align_down, wrap}
@@ -141,11 +142,14 @@ module _ (c : Core) (memory : ℕ → Option ℕ) (va : ℕ) (kind : Kind) where
       (omega (arith, first-few, access-few (bank_now c) c.privilege memory kind (next_page va)))
 
   asked-few : (b : Bool) → (works access (asks_by b va kind) c.tlb no_work).reads ≤ 8
-  asked-few true = two-few (translation_in (access kind va) c.tlb).answer (translation_in (access kind (next_page va)) after).answer first second 8 (omega (arith, first-few)) second-few
+  asked-few true =
+      two-few (translation_in (access kind va) c.tlb).answer (translation_in (access kind (next_page va)) after).answer first second 8
+      (omega (arith, first-few)) second-few
   asked-few false = rw (onward-same (translation_in (access kind va) c.tlb).answer first) (omega (arith, first-few))
 
   asked-sum : (b : Bool) → (works access (asks_by b va kind) c.tlb no_work).reads ≡ sum_read access (asks_by b va kind) c.tlb
-  asked-sum true = sum-two (translation_in (access kind va) c.tlb).answer (translation_in (access kind (next_page va)) after).answer first second _ second-adds
+  asked-sum true =
+      sum-two (translation_in (access kind va) c.tlb).answer (translation_in (access kind (next_page va)) after).answer first second _ second-adds
   asked-sum false = sum-one (translation_in (access kind va) c.tlb).answer first
 
 pub sums-reads : SumsReads
@@ -210,7 +214,11 @@ module _ (c : Core) (base va pa : ℕ) (line : va % 64 ≡ 0) (room : va + 64 �
       ∙ (λ i. work_in (access_of (bank_of (ec i) (regime_of (ew i).level)) (ew i) a Write (word_at base ram 8)) d.tlb w)
       ∙ given-reads (bank_now c) c.privilege Write (word_at base ram 8) a pa d.tlb w (gives-page (bank_now c) c.privilege Write a same g)
 
-  steady : (n k : ℕ) (d : Core) (ram : List ℕ) → k + n ≤ 8 → d.privilege ≡ c.privilege → d.control ≡ c.control
+  -- n stores from an address, after the one at a
+  abbrev stores_after : Core → List ℕ → ℕ → ℕ → ℕ → Work
+  stores_after d ram a n next = zero_work n (write_of d base ram a 8).core base (ram_after_write d base ram a 8 0) next w
+
+  pub steady : (n k : ℕ) (d : Core) (ram : List ℕ) → k + n ≤ 8 → d.privilege ≡ c.privilege → d.control ≡ c.control
       → Gives (bank_now c) c.privilege Write va pa d.tlb → zero_work n d base ram (wrap (va + 8 * k)) w ≡ w
   unfolding zero_work
   steady zero k d ram h ew ec g = refl
@@ -228,51 +236,43 @@ module _ (c : Core) (base va pa : ℕ) (line : va % 64 ≡ 0) (room : va + 64 �
       none : write_work d base ram (va + 8 * k) 8 w ≡ w
       none = store-given d ram (va + 8 * k) ew ec (omega arith) (omega arith) g
 
-      later : wrap (va + 8 * k + 8) ≡ wrap (va + 8 * suc k)
-      later = ap wrap (omega arith)
+      next : wrap (va + 8 * k + 8) ≡ wrap (va + 8 * suc k)
+      next = ap wrap (omega arith)
 
-      go : (x : StoreAnswer)
-          → zero_work n (write_of d base ram (va + 8 * k) 8).core base (ram_after_write d base ram (va + 8 * k) 8 0) (wrap (va + 8 * suc k)) w ≡ w
-          → on_stored x (zero_work n (write_of d base ram (va + 8 * k) 8).core base (ram_after_write d base ram (va + 8 * k) 8 0) (wrap (va + 8 * k + 8)) w) w ≡ w
+      go : (x : StoreAnswer) → stores_after d ram (va + 8 * k) n (wrap (va + 8 * suc k)) ≡ w
+          → on_stored x (stores_after d ram (va + 8 * k) n (wrap (va + 8 * k + 8))) w ≡ w
       go (Err s) ih = refl
-      go (Ok x) ih = rw later ih
+      go (Ok x) ih = rw next ih
 
--- a zeroing reads what its first store does
-module _ (c : Core) (base : ℕ) (ram : List ℕ) (x : ℕ) (w : Work) (well : WellFormed c.tlb) (small : x < 2 ^ 64) where
-  by-first : zero_work 8 c base ram (align_down x 6) w ≡ write_work c base ram (align_down x 6) 8 w
+-- a zeroing of a line reads what its first store does
+module _ (c : Core) (base : ℕ) (ram : List ℕ) (va : ℕ) (w : Work) (well : WellFormed c.tlb) (line : va % 64 ≡ 0) (room : va + 64 ≤ 2 ^ 64) where
+  abbrev first_store : Work
+  first_store = write_work c base ram va 8 w
+
+  by-first : zero_work 8 c base ram va w ≡ first_store
   unfolding zero_work
-  by-first = go (write_of c base ram (align_down x 6) 8).answer refl
+  by-first = go (write_of c base ram va 8).answer refl
     where
-      line : align_down x 6 % 64 ≡ 0
-      line = omega arith
-
-      room : align_down x 6 + 64 ≤ 2 ^ 64
-      room = omega arith
-
-      even : align_down x 6 % 8 ≡ 0
-      even = omega arith
-
-      one : align_down x 6 + 8 * 1 ≡ align_down x 6 + 8
+      one : va + 8 * 1 ≡ va + 8
       one = omega arith
 
-      go : (y : StoreAnswer) → (write_of c base ram (align_down x 6) 8).answer ≡ y
-          → on_stored y
-          (zero_work 7 (write_of c base ram (align_down x 6) 8).core base (ram_after_write c base ram (align_down x 6) 8 0) (wrap (align_down x 6 + 8)) (write_work c base ram (align_down x 6) 8 w))
-          (write_work c base ram (align_down x 6) 8 w)
-          ≡ write_work c base ram (align_down x 6) 8 w
+      even : va % 8 ≡ 0
+      even = omega arith
+
+      go : (y : StoreAnswer) → (write_of c base ram va 8).answer ≡ y
+          → on_stored y (zero_work 7 (write_of c base ram va 8).core base (ram_after_write c base ram va 8 0) (wrap (va + 8)) first_store) first_store ≡ first_store
       go (Err s) e = refl
       go (Ok y) e =
-          let d = one-done c base ram (align_down x 6) even e in
-          let b = kept c base ram (storing (align_down x 6) 8 0) in
-          rw one at (steady c base (align_down x 6) d.0 line room (write_work c base ram (align_down x 6) 8 w) 7 1 (write_of c base ram (align_down x 6) 8).core
-          (ram_after_write c base ram (align_down x 6) 8 0) (omega arith) (ap (λ (z : Bare). z.privilege) b) (ap (λ (z : Bare). z.control) b)
-          (begins c base ram (align_down x 6) d.0 well line room d.1.0))
+          let d = one-done c base ram va even e in
+          let b = kept c base ram (storing va 8 0) in
+          rw one at (steady c base va d.0 line room first_store 7 1 (write_of c base ram va 8).core (ram_after_write c base ram va 8 0) (omega arith)
+          (ap (λ (z : Bare). z.privilege) b) (ap (λ (z : Bare). z.control) b) (begins c base ram va d.0 well line room d.1.0))
 
 pub zeroing-by-first : ZeroingByFirst
-zeroing-by-first c base ram x w well small = by-first c base ram x w well small
+zeroing-by-first c base ram x w well small = by-first c base ram (align_down x 6) w well (omega arith) (omega arith)
 
 pub first-store-few : (c : Core) (base : ℕ) (ram : List ℕ) (x : ℕ) → WellFormed c.tlb → x < 2 ^ 64
     → (zero_work 8 c base ram (align_down x 6) no_work).reads ≤ 8
 first-store-few c base ram x well small =
     let few = store-few base c ram (align_down x 6) no_work (omega arith) in
-    rw (by-first c base ram x no_work well small) (omega arith)
+    rw (zeroing-by-first c base ram x no_work well small) (omega arith)

@@ -1,4 +1,4 @@
-// The core's operations on memory.
+// The core's operations on memory. The descriptors that an operation reads are added to its `work`.
 ghost use Rattle.std.specs.Prelude.{◌≡◌, length};
 ghost use Rattle.word.specs.Ram.{word_at, bytes_in};
 ghost use Rattle.exception.specs.Abort.{insn_abort_at};

@@ -54,7 +54,8 @@ impl Core {
         }
     }
 
-    /// The number of the first check that the call misses, and then nothing changes; else the operation.
+    /// The number of the first check that the call misses, and then nothing changes; else the operation. The descriptors
+    /// that it reads are added to `work`.
     #[tactic(auto, unfolding(crate::specs::Step::step_of, crate::specs::Step::ram_after, crate::specs::Work::step_work))]
     pub fn step(&mut self, base: u64, ram: &mut [u8], call: Call, work: &mut Work) -> Reply
         ensures core { record { core = self.new; reply = result } ≡ step_of self.old base ram.old call }

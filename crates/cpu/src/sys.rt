@@ -1,4 +1,4 @@
-// System operations on the core.
+// System operations on the core. The descriptors that one reads are added to its `work`.
 ghost use Rattle.std.specs.Prelude.{◌≡◌};
 ghost use Rattle.word.specs.Bits.{align_down};
 ghost use Rattle.word.specs.Ram.{word_at};
