@@ -67,7 +67,7 @@ module _ (w : World) (laws : Laws w) where
           go (Ok pa) = rest ∙ ap (model_answers w c m l) f.after
           go (Err fault) = refl
 
-    pub asks-stand : (l : List Ask) (t : Tlb) → WellFormed t → StandsFor (tlb_asks w c m l t) (model_asks w c m l (live t))
+    asks-stand : (l : List Ask) (t : Tlb) → WellFormed t → StandsFor (tlb_asks w c m l t) (model_asks w c m l (live t))
     asks-stand [] t s = record { well = s; is = refl }
     asks-stand (a ∷ l) t s =
         let f = ask-follows a t s in
