@@ -22,16 +22,16 @@ reads-append [] ys = omega arith
 reads-append (x ∷ xs) ys = let e = reads-append xs ys in omega (arith, e)
 
 -- what is read before `more` is read too
-abbrev Adds : Work → Work → ℕ → Type 0
+abbrev pub Adds : Work → Work → ℕ → Type 0
 Adds v before more = v.reads ≡ (before.reads + more) % 2 ^ 64
 
-adds-small : (v before : Work) (more : ℕ) → Adds v before more → v.reads < 2 ^ 64
+pub adds-small : (v before : Work) (more : ℕ) → Adds v before more → v.reads < 2 ^ 64
 adds-small v before more e = omega (arith, e)
 
-adds-none : (v : Work) → v.reads < 2 ^ 64 → Adds v v 0
+pub adds-none : (v : Work) → v.reads < 2 ^ 64 → Adds v v 0
 adds-none v small = omega arith
 
-then-adds : (v mid before : Work) (n more : ℕ) → Adds mid before n → Adds v mid more → Adds v before (n + more)
+pub then-adds : (v mid before : Work) (n more : ℕ) → Adds mid before n → Adds v mid more → Adds v before (n + more)
 then-adds v mid before n more e f = omega arith
 
 adds-work : (how : How) (n : ℕ) (v : Work) → v.reads < 2 ^ 64 → Adds (how_work how n v) v (read_by how n)
