@@ -1,6 +1,6 @@
 -- A block by its ends, and a range by its ends.
 use Rattle.std.specs.Prelude.{◌≡◌, refl, Bool, true, false, not, ◌||◌, ltb, ℕ, ◌+◌, ◌-◌, ◌*◌, ◌/◌, ◌%◌, ◌^◌, ◌≤◌, ◌<◌, max, min}
-use Rattle.std.proofs.Common.{sym, ap, ◌∙◌, arith, pow_pos, mod-lt, ltb-true, ltb-false, lt-ltb, le-ltb, pow_mono}
+use Rattle.std.proofs.Common.{sym, ap, ◌∙◌, arith, pow_pos, mod-lt, ltb-true, ltb-false, lt-ltb, le-ltb, pow_mono, pow-add}
 use Rattle.std.proofs.Math.Pow.{split}
 use Rattle.std.proofs.lemmas.Nat.{div-mul-add}
 use Rattle.word.specs.Bits.{align_down}
@@ -71,3 +71,37 @@ pub one-shift : (n : ℕ) → n ≤ 55 → 1 * 2 ^ n % 2 ^ 64 ≡ 2 ^ n
 one-shift n h =
     let k : 2 ^ n ≤ 2 ^ 55 = pow_mono h in
     omega arith
+
+-- PAGES: blocks and ranges are of whole pages of 2^12
+
+record Pages (x : ℕ) : Type 0 where
+  count : ℕ
+  some : 0 < count
+  is : x ≡ count * 2 ^ 12
+
+pages : (n : ℕ) → 12 ≤ n → Pages (2 ^ n)
+pages n h =
+    let e : n ≡ n - 12 + 12 = omega arith in
+    record { count = 2 ^ (n - 12); some = pow_pos (n - 12); is = ap (λ (k : ℕ). 2 ^ k) e ∙ pow-add 2 (n - 12) 12 }
+
+ends-page : (q x : ℕ) → Pages x → (q * x + (x - 1)) % 2 ^ 12 ≡ 2 ^ 12 - 1
+ends-page q x p =
+    let s = p.some in
+    rw p.is (omega arith)
+
+pub block-page : (va n : ℕ) → 12 ≤ n → (align_down va n + (2 ^ n - 1)) % 2 ^ 12 ≡ 2 ^ 12 - 1
+block-page va n h = ends-page (va / 2 ^ n) (2 ^ n) (pages n h)
+
+pub lower-page : (g : Range) → (2 ^ 64 - 1) / 2 ^ max 16 (min g.txsz 39) % 2 ^ 12 ≡ 2 ^ 12 - 1
+lower-page g =
+    let p = pages (inputsize g) (omega arith) in
+    let s = p.some in
+    let e = p.is in
+    rw (last g 0) (omega arith)
+
+pub upper-page : (g : Range) → (2 ^ 64 - 1 - (2 ^ 64 - 1) / 2 ^ max 16 (min g.txsz 39)) % 2 ^ 12 ≡ 0
+upper-page g =
+    let p = pages (inputsize g) (omega arith) in
+    let s = p.some in
+    let e = p.is in
+    rw (last g 0) (omega arith)

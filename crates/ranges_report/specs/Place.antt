@@ -1,5 +1,5 @@
 -- Where an address is mapped: by its walk, and by a list of ranges.
-use Rattle.std.specs.Prelude.{if◌then◌else◌, ◌||◌, nat_lt, ℕ, ◌+◌, ◌-◌, List, [], ◌∷◌, Option, Some, None, Ok, Err}
+use Rattle.std.specs.Prelude.{if◌then◌else◌, ◌≡◌, not, ◌||◌, nat_lt, ℕ, ◌+◌, ◌-◌, ◌≤◌, List, [], ◌∷◌, ◌++◌, Option, Some, None, Ok, Err}
 use Rattle.walk.specs.Descriptor.{attr_indx, ns, sh}
 use Rattle.walk.specs.Walk.{walk_of}
 use Rattle.walk.specs.Answers.{Walked}
@@ -33,6 +33,9 @@ ahead None k = None
 
 -- WHAT A LIST OF RANGES SAYS
 
+abbrev pub range_of : ℕ → ℕ → Leaf → Mapped
+range_of first last leaf = record { first = first; last = last; pa = leaf.oa; attributes = attributes_of leaf }
+
 abbrev pub place_in : Mapped → ℕ → Place
 place_in m va = record { pa = m.pa + (va - m.first); attributes = m.attributes }
 
@@ -40,3 +43,18 @@ place_in m va = record { pa = m.pa + (va - m.first); attributes = m.attributes }
 unfoldable pub map_at : List Mapped → ℕ → Option Place
 map_at [] va = None
 map_at (m ∷ l) va = if nat_lt va m.first || nat_lt m.last va then map_at l va else Some (place_in m va)
+
+-- A range ends where the next begins, and maps it on: these two are one
+pub record Joins (m next : Mapped) : Type 0 where
+  pub some : m.first ≤ m.last
+  pub follows : next.first ≡ m.last + 1
+  pub goes_on : next.pa ≡ m.pa + (next.first - m.first)
+  pub alike : next.attributes ≡ m.attributes
+
+-- a list that says what another and one more range say
+abbrev pub Added : List Mapped → Mapped → List Mapped → Type 0
+Added old next new = next.first ≤ next.last → (va : ℕ) → map_at new va ≡ map_at (old ++ next ∷ []) va
+
+-- a list says where each address is mapped from one up to another and not at it, and nothing of any other address
+abbrev pub Maps : (ℕ → Option Place) → ℕ → ℕ → List Mapped → Type 0
+Maps place from end l = (va : ℕ) → map_at l va ≡ (if nat_lt va from || not (nat_lt va end) then None else place va)

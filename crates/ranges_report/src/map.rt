@@ -1,7 +1,8 @@
 // The ranges of a map.
-ghost use Rattle.std.specs.Prelude.{◌≡◌};
-ghost use Rattle.ranges_report.specs.Place.{attributes_of};
+ghost use Rattle.std.specs.Prelude.{◌≡◌, ◌↔◌, IsTrue, IfOk};
+ghost use Rattle.ranges_report.specs.Place.{attributes_of, range_of, Joins, Added};
 
+use std::alloc::AllocError;
 use walk::level::Leaf;
 
 /// What of a leaf holds of all that it maps.
@@ -43,4 +44,47 @@ impl Attributes {
             ns: leaf.desc >> 5 & 1 != 0,
         }
     }
+}
+
+impl Mapped {
+    pub(crate) fn new(first: u64, last: u64, leaf: Leaf) -> Self
+        ensures { result ≡ range_of first last leaf }
+    {
+        Mapped {
+            first,
+            last,
+            pa: leaf.oa,
+            attributes: Attributes::new(leaf),
+        }
+    }
+
+    // Whether the next range goes on where this one ends, to the physical address that follows, alike.
+    fn joins(&self, next: &Mapped) -> bool
+        ensures { IsTrue result ↔ Joins self.now next.now }
+    {
+        self.first <= self.last
+            && self.last < next.first
+            && next.first - self.last == 1
+            && self.pa <= next.pa
+            && next.pa - self.pa == next.first - self.first
+            && self.attributes == next.attributes
+    }
+}
+
+// Adds a range at the end, to the one before where it joins it.
+pub(crate) fn add(ranges: &mut Vec<Mapped>, next: Mapped) -> Result<(), AllocError>
+    ensures { IfOk result (λ done. Added ranges.old.items next ranges.new.items) }
+{
+    if let Some(before) = ranges.pop() {
+        if before.joins(&next) {
+            ranges.push(Mapped {
+                last: next.last,
+                ..before
+            })?;
+            return Ok(());
+        }
+        ranges.push(before)?;
+    }
+    ranges.push(next)?;
+    Ok(())
 }

@@ -1,9 +1,9 @@
 // How far a walk's end holds: a leaf or a fault of a level is that of the whole block of the level.
-ghost use Rattle.std.specs.Prelude.{◌≡◌, ℕ, ◌-◌, ◌/◌, ◌^◌, ◌≤◌, ◌<◌, not, ◌||◌, nat_lt};
+ghost use Rattle.std.specs.Prelude.{◌≡◌, ℕ, ◌-◌, ◌/◌, ◌%◌, ◌^◌, ◌≤◌, ◌<◌, not, ◌||◌, nat_lt};
 ghost use Rattle.word.specs.Ram.{word_at};
 ghost use Rattle.walk.specs.Table.{addrselectbottom, in_range};
 ghost use Rattle.walk.specs.Walk.{walk_of};
-ghost use Rattle.ranges_report.specs.Place.{place_of, place_at, ahead};
+ghost use Rattle.ranges_report.specs.Place.{place_at, ahead};
 ghost use Rattle.ranges_report.specs.Block.{level_of, Alike};
 
 use sysreg::regs::Regime;
@@ -30,7 +30,7 @@ struct Window {
 fn lowest_bit(largegrain: bool, level: u64) -> u64
     requires { level ≤ 3 }
     ensures value { result ≡ addrselectbottom largegrain level }
-    ensures upper_bound { result ≤ 55 }
+    ensures bounds { (12 ≤ result) × (result ≤ 55) }
 {
     let granule = if largegrain { 16 } else { 12 };
     granule + (granule - 3) * (3 - level)
@@ -50,6 +50,7 @@ fn level_of(end: Walked) -> u8
 fn end_of_block(va: u64, n: u64) -> u64
     requires { n ≤ 55 }
     ensures reaches { va ≤ result }
+    ensures page { 12 ≤ n → result % 2 ^ 12 ≡ 2 ^ 12 - 1 }
     ensures same { (vb : ℕ) → va ≤ vb → vb ≤ result → va / 2 ^ n ≡ vb / 2 ^ n }
 {
     bits::align_down(va, n) + ((1 << n) - 1)
@@ -57,7 +58,8 @@ fn end_of_block(va: u64, n: u64) -> u64
 
 impl Window {
     fn new(range: Range) -> Self
-        ensures { (va : ℕ) → va < 2 ^ 64
+        ensures pages { (result.first % 2 ^ 12 ≡ 0) × (result.last % 2 ^ 12 ≡ 2 ^ 12 - 1) }
+        ensures ends { (va : ℕ) → va < 2 ^ 64
             → in_range range va ≡ not (nat_lt va result.first || nat_lt result.last va) }
     {
         let size = u64::MAX >> range.txsz.clamp(16, 39);
@@ -79,6 +81,7 @@ impl Window {
 fn last_of(range: Range, va: u64, level: u64) -> u64
     requires { level ≤ 3 }
     ensures reaches { va ≤ result }
+    ensures page { result % 2 ^ 12 ≡ 2 ^ 12 - 1 }
     ensures alike { (vb : ℕ) → va ≤ vb → vb ≤ result → Alike range level va vb }
 {
     let Window { first, last } = Window::new(range);
@@ -96,8 +99,10 @@ impl Stretch {
     pub fn new(bank: Bank, regime: Regime, va: u64, base: u64, ram: &[u8]) -> Self
         ensures end { result.end ≡ walk_of bank regime va (word_at base ram.now 8) }
         ensures reaches { va ≤ result.last }
+        ensures page { result.last % 2 ^ 12 ≡ 2 ^ 12 - 1 }
         ensures holds { (vb : ℕ) → va ≤ vb → vb ≤ result.last
-            → place_at bank regime (word_at base ram.now 8) vb ≡ ahead (place_of result.end) (vb - va) }
+            → place_at bank regime (word_at base ram.now 8) vb
+            ≡ ahead (place_at bank regime (word_at base ram.now 8) va) (vb - va) }
     {
         let end = bank.walk(regime, va, base, ram).end;
         let range = bank.range(regime, va);

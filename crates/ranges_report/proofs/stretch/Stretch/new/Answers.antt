@@ -15,4 +15,4 @@ returns-clause-holds c vb h k =
     let memory = word_at c.args.base c.args.ram.now 8 in
     let l : c.from.result ≡ level_of c.walk-end.result.end = c.from.ensures ∙ c.level_of.ensures in
     let a = rw (l, c.walk-end.ensures.end, c.range-range.ensures) at (c.last_of-last.ensures.alike vb h k) in
-    rw c.walk-end.ensures.end (place-ahead c.args.bank c.args.regime c.args.va vb memory h a)
+    place-ahead c.args.bank c.args.regime c.args.va vb memory h a
