@@ -46,7 +46,7 @@ module _ (x : Call) (base : ℕ) (ram : List ℕ) (c : Core) where
             record { reply = s.reply; number_is = en; value_is = ev; faithful = faithful-step c base ram x s ys refl ey list e };
       }
 
-  pub by-words : (old v ys : List ℕ) (d : Core) → v ≡ words_by s.reply → ys ≡ ram_after c base ram x → d ≡ s.core
+  pub by-words : (old v ys : List ℕ) (d : Core) → v ≡ step_words s.reply w.reads → ys ≡ ram_after c base ram x → d ≡ s.core
       → StepPromise (Known x) base ram c 0 old v ys d
   unfolding FaithfulCall
   by-words old v ys d ev ey ed =
