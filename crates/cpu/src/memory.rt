@@ -71,7 +71,7 @@ impl Core {
 
     /// A translation by a walk: where one is needed, the translation.
     #[inline(always)]
-    #[tactic(auto, unfolding(crate::specs::Memory::past_hint_of, crate::specs::Translations::past_hint_step, crate::specs::Core::after_access))]
+    #[tactic(auto, unfolding(crate::specs::Memory::past_hint_of, crate::specs::Translations::past_hint_step, crate::specs::Core::after_access, crate::specs::Work::past_hint_work))]
     pub fn by_walk(
         &mut self,
         base: u64,
@@ -92,6 +92,7 @@ impl Core {
     // A translation that no hint serves. Out of line, and reads the registers itself, so that a hint pays nothing for
     // it.
     #[inline(never)]
+    #[tactic(auto, unfolding(crate::specs::Work::past_hint_work))]
     fn translate_slow(
         &mut self,
         base: u64,
@@ -112,7 +113,7 @@ impl Core {
 
     /// Where an access of the kind to va goes: the data hint first, which is asked once. The fetch hint is neither used
     /// nor set.
-    #[tactic(auto, unfolding(crate::specs::Memory::translate_of, crate::specs::Memory::stepped_now, crate::specs::Memory::past_hint_of, crate::specs::Translations::translate_in, crate::specs::Translations::past_hint_step, crate::specs::Core::after_access))]
+    #[tactic(auto, unfolding(crate::specs::Memory::translate_of, crate::specs::Memory::stepped_now, crate::specs::Memory::past_hint_of, crate::specs::Translations::translate_in, crate::specs::Translations::past_hint_step, crate::specs::Core::after_access, crate::specs::Work::translate_work, crate::specs::Work::past_hint_work))]
     pub fn translate(
         &mut self,
         base: u64,
@@ -132,7 +133,7 @@ impl Core {
     }
 
     /// The translation that a fetch begins with: by the fetch hint, and else one that leaves it.
-    #[tactic(auto, unfolding(crate::specs::Memory::translate_fetch_of, crate::specs::Memory::fetch_stepped_now, crate::specs::Memory::past_hint_of, crate::specs::Translations::past_hint_step, crate::specs::Translations::translate_fetch_in, crate::specs::Core::after_access))]
+    #[tactic(auto, unfolding(crate::specs::Memory::translate_fetch_of, crate::specs::Memory::fetch_stepped_now, crate::specs::Memory::past_hint_of, crate::specs::Translations::past_hint_step, crate::specs::Translations::translate_fetch_in, crate::specs::Core::after_access, crate::specs::Work::fetch_work, crate::specs::Work::past_hint_work))]
     pub fn translate_fetch(
         &mut self,
         base: u64,
@@ -155,7 +156,7 @@ impl Core {
     /// The translations of an access, before a byte moves: one, or two where it crosses a page. The first one's effects
     /// remain where the second faults.
     #[inline(always)]
-    #[tactic(auto, unfolding(crate::specs::Memory::translate_access_of, crate::specs::Memory::located_now, crate::specs::Translations::located_of, crate::specs::Memory::translate_of, crate::specs::Memory::stepped_now, crate::specs::Core::after_access))]
+    #[tactic(auto, unfolding(crate::specs::Memory::translate_access_of, crate::specs::Memory::located_now, crate::specs::Translations::located_of, crate::specs::Memory::translate_of, crate::specs::Memory::stepped_now, crate::specs::Core::after_access, crate::specs::Work::access_work, crate::specs::Work::translate_work))]
     pub fn translate_access(
         &mut self,
         base: u64,
