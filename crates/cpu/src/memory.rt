@@ -156,7 +156,7 @@ impl Core {
     /// The translations of an access, before a byte moves: one, or two where it crosses a page. The first one's effects
     /// remain where the second faults.
     #[inline(always)]
-    #[tactic(auto, unfolding(crate::specs::Memory::translate_access_of, crate::specs::Memory::located_now, crate::specs::Translations::located_of, crate::specs::Memory::translate_of, crate::specs::Memory::stepped_now, crate::specs::Core::after_access, crate::specs::Work::access_work, crate::specs::Work::translate_work))]
+    #[tactic(auto, unfolding(crate::specs::Memory::translate_access_of, crate::specs::Memory::located_now, crate::specs::Translations::located_of, crate::specs::Memory::translate_of, crate::specs::Memory::stepped_now, crate::specs::Core::after_access, crate::specs::Work::access_work, crate::specs::Work::translate_work), using(crate::proofs::AccessWork::first_work))]
     pub fn translate_access(
         &mut self,
         base: u64,

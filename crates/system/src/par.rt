@@ -54,14 +54,7 @@ fn leaf_par(mair: u64, ns: bool, form: AtForm, leaf: Leaf) -> u64
 /// walk reads; `mair` is the regime's. It never uses or fills the cache.
 #[inline(always)]
 #[tactic(auto, unfolding(crate::specs::Par::at_par, crate::specs::Par::par_in), using(crate::proofs::Pars::low_leaf))]
-pub fn at(
-    control: &Control,
-    mair: u64,
-    form: AtForm,
-    va: u64,
-    base: u64,
-    ram: &[u8],
-) -> (u64, u8)
+pub fn at(control: &Control, mair: u64, form: AtForm, va: u64, base: u64, ram: &[u8]) -> (u64, u8)
     ensures par { result.0 ≡ at_par control.now mair form va (word_at base ram.now 8) }
     ensures reads { result.1
         ≡ fresh_reads (bank_of control.now form.regime) form.regime va (word_at base ram.now 8) }
