@@ -96,6 +96,7 @@ mod tests {
                 Some(answer) => assert_eq!(answer.ok(), other.fetch_pa(&ram, va).unwrap()),
                 None => assert_eq!(core.fetch_pa(&ram, va), other.fetch_pa(&ram, va)),
             }
+            assert_eq!(core.report(), other.report());
             for core in [&mut core, &mut other] {
                 match step {
                     50 => core.write_register(registers::SCTLR_EL1, 1).unwrap(),

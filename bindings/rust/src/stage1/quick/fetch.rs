@@ -112,13 +112,13 @@ fn asked<const INSN: bool>(core: &mut Core, va: u64, ans: &mut Report, base: u64
 }
 
 /// The instruction at va.
-#[inline]
+#[inline(always)]
 pub fn fetch(core: &mut Core, va: u64, ans: &mut Report, base: u64, ram: &[u8]) -> u64 {
     asked::<true>(core, va, ans, base, ram)
 }
 
 /// Where a fetch of va goes, by the same hint, which a new page refreshes.
-#[inline]
+#[inline(always)]
 pub fn fetch_pa(core: &mut Core, va: u64, ans: &mut Report, base: u64, ram: &[u8]) -> u64 {
     asked::<false>(core, va, ans, base, ram)
 }

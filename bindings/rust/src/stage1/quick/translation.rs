@@ -117,7 +117,7 @@ fn data_rest(core: &mut Core, va: u64, ans: &mut Report, base: u64, ram: &[u8]) 
 }
 
 /// Where a data read of va goes.
-#[inline]
+#[inline(always)]
 pub fn data_pa(core: &mut Core, va: u64, ans: &mut Report, base: u64, ram: &[u8]) -> u64 {
     match hint::served(core, va, 1, base, ram.len() as u64) {
         Some(pa) => {
