@@ -93,7 +93,7 @@ mod view;
 mod walk;
 
 pub use crate::core::Core;
-pub use answer::{Check, Fault, Stop};
+pub use answer::{Check, Fault, Report, Stop};
 #[cfg(feature = "alloc")]
 pub use boxed::Edit;
 pub use census::{Census, Rights};
