@@ -1,9 +1,8 @@
 -- What a call reads: the walks of its events, and AT's own.
-use Rattle.std.specs.Prelude.{if◌then◌else◌, ◌≡◌, refl, Bool, true, false, List, [], ◌∷◌, ◌++◌, ℕ, zero, suc, ◌+◌, ◌*◌, ◌%◌, ◌^◌, ◌≤◌, ◌<◌, length, Option, Some, None, Ok, Err}
+use Rattle.std.specs.Prelude.{if◌then◌else◌, ◌≡◌, refl, Bool, true, false, List, [], ◌∷◌, ℕ, zero, suc, ◌+◌, ◌*◌, ◌%◌, ◌^◌, ◌≤◌, ◌<◌, length, Option, Some, None, Ok, Err}
 use Rattle.std.proofs.Common.{sym, ap, subst, ◌∙◌, arith}
-use Rattle.std.proofs.lemmas.Bool.{false≢true}
 use Rattle.word.specs.Bits.{align_down, wrap}
-use Rattle.word.specs.Ram.{word_at, width_of, bytes_in}
+use Rattle.word.specs.Ram.{width_of, bytes_in}
 use Rattle.word.specs.declared.ram.Width.{Width}
 use Rattle.walk.specs.Fetches.{fetches_of, fresh_reads}
 use Rattle.walk.proofs.FetchLaws.{few-fetches}
@@ -14,13 +13,12 @@ use Rattle.sysreg.specs.declared.regs.Regime.{Regime}
 use Prim.Native.Nat.{zero-le, suc-le-suc}
 use Rattle.walk.specs.Regime.{bank_of, stage1_on}
 use Rattle.tlb.specs.Answers.{Answer}
-use Rattle.tlb.specs.Asks.{Ask, translates, fetches, address_of, onward, answer_of, work_of, works}
+use Rattle.tlb.specs.Asks.{Ask, translates, fetches, address_of, onward, answer_of, work_of}
 use Rattle.tlb.proofs.Asks.{onward-same}
 use Rattle.tlb.specs.Lists.{Each, done, more}
 use Rattle.tlb.specs.Model.{Model}
 use Rattle.tlb.specs.Work.{no_work, read_more}
 use Rattle.tlb.specs.declared.access.Kind.{Kind}
-use Rattle.tlb.specs.declared.access.Kind.TheVariants as Kind
 use Rattle.tlb.specs.declared.{Tlb.Tlb, work.Work.Work}
 use Rattle.sysreg.specs.Write.{WriteAnswer}
 use Rattle.sysreg.specs.declared.write.WriteError.TheVariants.{Undefined, NoRegister}
