@@ -37,6 +37,7 @@ pub mod ZeroMeaning
 pub mod Step
 -- What it reads of the tables.
 pub mod Work
+pub mod Reads
 pub mod Inspect
 pub mod Cases
 pub mod EveryCallEnds
