@@ -144,7 +144,7 @@ some_left n h = pos_of_ne-zero h
 pub fewer-left : (n t : ℕ) → (n ≢ 0) → n ≡ t → n - 1 < t
 fewer-left n t h e = let k = some_left n h in omega arith
 
-more : (n : ℕ) → (n ≢ 0) → n ≡ suc (n - 1)
+pub more : (n : ℕ) → (n ≢ 0) → n ≡ suc (n - 1)
 more n h = let k = some_left n h in omega arith
 
 -- no store, one that stops, and one that goes on

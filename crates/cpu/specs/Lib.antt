@@ -35,6 +35,8 @@ pub mod SystemCases
 pub mod ZeroMeaning
 -- The table of docs/SCOPE.md, "Where each answer is given": the checks, then the operations.
 pub mod Step
+-- What it reads of the tables.
+pub mod Work
 pub mod Inspect
 pub mod Cases
 pub mod EveryCallEnds

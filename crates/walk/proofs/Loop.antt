@@ -1,5 +1,5 @@
 -- The loop over the levels: a step that leads on stands one level lower and ends as before; a step that is done has the walk's answer.
-use Rattle.std.specs.Prelude.{Ok, Err, Option, None}
+use Rattle.std.specs.Prelude.{Ok, Err, Option, None, List, length}
 use Rattle.walk.specs.Answers.{Begin, Walked}
 use mathlib.Core.Path.{◌≡◌, refl, sym, ap, ◌∙◌}
 use mathlib.Core.Bool.{Bool, true, false, not, ◌&&◌, ◌||◌}
@@ -11,6 +11,8 @@ use Rattle.walk.specs.Table.{Lookup, Next, deeper, ends, lookup_next}
 use Rattle.walk.specs.Table.{walk_from, walk_range, table_walk, range_of, params_of, first_lookup, startlevel, inputsize, in_range, beyond, addrselectbottom}
 use Rattle.walk.specs.Table.{startlevel_of, baselowerbound}
 use Rattle.walk.specs.Walk.{walked_of, walk_of}
+use Rattle.walk.specs.Fetches.{fetches_from, fetches_range, fetches_of}
+use Rattle.walk.proofs.FetchLaws.{few-fetches}
 use Rattle.walk.specs.State.{lookup_of, onward, answers, stepped, meant, Standing, Onwards, Leads, next, found, fault, begin_of}
 use Rattle.walk.specs.declared.{regime.Bank.Bank, range.Range.Range}
 use Rattle.sysreg.specs.declared.regs.Regime.{Regime}
@@ -85,6 +87,36 @@ module _ (memory : ℕ → Option ℕ) (p : Params) (w : WalkState) (va : ℕ) (
   pub fault-right : (status : ℕ) (a : Walked) → s ≡ Fault status → Standing p w → Left w a → Err status ≡ a
   fault-right status a n = done-right (Err status) a (ap (stepped p) n)
 
+  -- the descriptors that are read from here on
+  abbrev Rest : WalkState → ℕ
+  Rest u = length (fetches_from (4 - u.level) memory p va (lookup_of p u))
+
+  pub reads-on : (v : WalkState) → s ≡ Onward v → Standing p w → Rest w ≡ suc (Rest v)
+  unfolding fetches_from
+  reads-on v n st =
+      let l = (leads-on p w v s ld n).level in
+      let b = (leads-on p w v s ld n).stands.level in
+      let k : 4 - w.level ≡ suc (4 - v.level) = omega arith in
+      let d = is-deeper p (lookup_of p v) (lookup_next memory p va (lookup_of p w)) (rw n at es) in
+      rw (k, fetches_from, d)
+
+  last-read : (x : Walked) → stepped p s ≡ answers x → Standing p w → Rest w ≡ 1
+  unfolding fetches_from
+  last-read x n st = go (lookup_next memory p va (lookup_of p w)) refl
+    where
+      k : 4 - w.level ≡ suc (3 - w.level)
+      k = omega (arith, st.level)
+
+      go : (y : Next) → lookup_next memory p va (lookup_of p w) ≡ y → Rest w ≡ 1
+      go (deeper l) e = absurd (apart l x (sym (rw (n, e) at es)))
+      go (ends q) e = rw (k, fetches_from, e)
+
+  pub leaf-read : (leaf : Leaf) → s ≡ Found leaf → Standing p w → Rest w ≡ 1
+  leaf-read leaf n = last-read (Ok leaf) (ap (stepped p) n)
+
+  pub fault-read : (status : ℕ) → s ≡ Fault status → Standing p w → Rest w ≡ 1
+  fault-read status n = last-read (Err status) (ap (stepped p) n)
+
 -- where a walk begins it stands, and what it stands for is the manual's first table
 pub at-inj : (w v : WalkState) → ◌≡◌ {A = Begin} (Ok w) (Ok v) → w ≡ v
 at-inj w v e = cc
@@ -153,6 +185,29 @@ module _ (s : Bank) (r : Regime) (va : ℕ) (memory : ℕ → Option ℕ) (g : R
   refused n false true ea eb e = rw (ea, eb, ← refused-inj _ n (rw (ea, eb) at e))
   refused n false false ea eb e = absurd (at-refused n _ (rw (ea, eb) at e))
 
+  abbrev Read : WalkState → Type 0
+  Read w = fetches_range p g va memory ≡ fetches_from (4 - w.level) memory p va (lookup_of p w)
+
+  read-begun : (w : WalkState) (a b : Bool) → (not (in_range g va) || g.disabled) ≡ a → beyond p.outputsize g.baseregister ≡ b
+      → begin_of g p.outputsize va ≡ Ok w → Read w
+  unfolding begin_of fetches_range first
+  read-begun w true b ea eb e = absurd (refused-at _ w (rw ea at e))
+  read-begun w false true ea eb e = absurd (refused-at _ w (rw (ea, eb) at e))
+  read-begun w false false ea eb e =
+      let i : first g ≡ w = at-inj (first g) w (rw (ea, eb) at e) in
+      rw (← i, ea, eb) (ap (λ (l : Lookup). fetches_from (4 - startlevel g) memory p va l) (first-is p g))
+
+  none-read : (n : ℕ) (a b : Bool) → (not (in_range g va) || g.disabled) ≡ a → beyond p.outputsize g.baseregister ≡ b
+      → begin_of g p.outputsize va ≡ Err n → 0 ≡ length (fetches_range p g va memory)
+  unfolding begin_of fetches_range
+  none-read n true b ea eb e = rw ea
+  none-read n false true ea eb e = rw (ea, eb)
+  none-read n false false ea eb e = absurd (at-refused n _ (rw (ea, eb) at e))
+
+  fetched : fetches_range p g va memory ≡ fetches_of s r va memory
+  unfolding fetches_of params_of
+  fetched = rw (ep, eg)
+
   walked : walked_of p.singlepriv p.wxn (walk_range p g va memory) ≡ walk_of s r va memory
   unfolding walk_of table_walk params_of
   walked = rw (ep, eg)
@@ -167,9 +222,31 @@ module _ (s : Bank) (r : Regime) (va : ℕ) (memory : ℕ → Option ℕ) (g : R
   pub walk_refused : (n : ℕ) → x ≡ Err n → Err n ≡ walk_of s r va memory
   walk_refused n e = refused n _ _ refl refl (sym ex ∙ e) ∙ walked
 
+  pub reads_begun : (w : WalkState) → x ≡ Ok w
+      → length (fetches_from (4 - w.level) memory p va (lookup_of p w)) ≡ length (fetches_of s r va memory)
+  reads_begun w n = ap (λ (l : List ℕ). length l) (sym (read-begun w _ _ refl refl (sym ex ∙ n)) ∙ fetched)
+
+  pub reads_refused : (n : ℕ) → x ≡ Err n → 0 ≡ length (fetches_of s r va memory)
+  reads_refused n e = none-read n _ _ refl refl (sym ex ∙ e) ∙ ap (λ (l : List ℕ). length l) fetched
+
 -- whatever memory holds
 pub begins-standing : (s : Bank) (r : Regime) (va : ℕ) (g : Range) (p : Params) (x : Begin) (w : WalkState) → g ≡ range_of s r va
     → p ≡ params_of s r g → x ≡ begin_of g p.outputsize va → x ≡ Ok w → Standing p w
 begins-standing s r va g p x w eg ep ex n = standing s r va (λ _. None) g p x eg ep ex w n
 
-pub ruleset walk_steps = (begins-standing, walk_begun, walk_refused, falls, stands, goes_on, leaf-right, fault-right)
+pub ruleset walk_steps = (
+  begins-standing,
+  walk_begun,
+  walk_refused,
+  falls,
+  stands,
+  goes_on,
+  leaf-right,
+  fault-right,
+  reads_begun,
+  reads_refused,
+  reads-on,
+  leaf-read,
+  fault-read,
+  few-fetches,
+)

@@ -1,5 +1,7 @@
 -- The descriptors that a walk fetches. A walk sees of memory only these, and there are few (proofs/FetchLaws.antt).
-use Rattle.std.specs.Prelude.{◌≡◌, ℕ, zero, suc, ◌-◌, List, [], ◌∷◌, Option}
+use Rattle.std.specs.Prelude.{if◌then◌else◌, ◌≡◌, ℕ, zero, suc, ◌-◌, List, [], ◌∷◌, length, Option}
+use Rattle.walk.specs.Regime.{stage1_on}
+use Rattle.walk.specs.Tag.{untagged}
 use Rattle.walk.specs.Table.{startlevel, entered, Lookup, Next, deeper, ends, first_lookup, range_of, params_of, descaddr, lookup_next}
 use Rattle.walk.specs.declared.{regime.Bank.Bank, range.Range.Range, level.Params.Params}
 use Rattle.sysreg.specs.declared.regs.Regime.{Regime}
@@ -19,6 +21,10 @@ fetches_range p g va memory = entered p.outputsize g va (λ f. []) (fetches_from
 -- those of the whole walk
 unfoldable pub fetches_of : Bank → Regime → ℕ → (ℕ → Option ℕ) → List ℕ
 fetches_of s r va memory = fetches_range (params_of s r (range_of s r va)) (range_of s r va) va memory
+
+-- how many the fresh answer of an address takes: those of its walk, and none with stage 1 off
+unfoldable pub fresh_reads : Bank → Regime → ℕ → (ℕ → Option ℕ) → ℕ
+fresh_reads s r va memory = if stage1_on s r then length (fetches_of s r (untagged s.tcr r va) memory) else 0
 
 -- two memories have one word at each address of a list
 pub data Agree (m m' : ℕ → Option ℕ) : List ℕ → Type 0 where

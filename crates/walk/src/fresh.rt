@@ -1,6 +1,7 @@
 // How an address ends with nothing cached: what AT, the page census and every other look at the tables start from.
 ghost use Rattle.std.specs.Prelude.{◌≡◌};
 ghost use Rattle.word.specs.Ram.{word_at};
+ghost use Rattle.walk.specs.Fetches.{fresh_reads};
 ghost use Rattle.walk.specs.Fresh.{fresh_of};
 
 use crate::fsc::FSC_ADDR_SIZE;
@@ -16,19 +17,30 @@ pub enum Fresh {
 }
 
 impl Bank {
-    /// The fresh answer of `va`, tag and all, in the regime, over the RAM that starts at `base`.
+    /// The fresh answer of `va`, tag and all, in the regime, over the RAM that starts at `base`; and how many descriptors
+    /// its walk read.
     #[inline(always)]
-    #[tactic(auto, unfolding(crate::specs::Fresh::fresh_of))]
+    #[tactic(auto, unfolding(crate::specs::Fresh::fresh_of, crate::specs::Fetches::fresh_reads))]
+    pub fn fresh_with_reads(self, regime: Regime, va: u64, base: u64, ram: &[u8]) -> (Fresh, u8)
+        ensures fresh { result.0 ≡ fresh_of self regime va (word_at base ram.now 8) }
+        ensures reads { result.1 ≡ fresh_reads self regime va (word_at base ram.now 8) }
+    {
+        if self.stage1_on(regime) {
+            let walked = self.walk(regime, self.untag(regime, va), base, ram);
+            (Fresh::Ended(walked.end), walked.reads)
+        } else {
+            match self.flat(regime, va) {
+                Some(pa) => (Fresh::Flat(pa), 0),
+                None => (Fresh::Ended(Err(FSC_ADDR_SIZE)), 0),
+            }
+        }
+    }
+
+    /// The fresh answer alone.
+    #[inline(always)]
     pub fn fresh(self, regime: Regime, va: u64, base: u64, ram: &[u8]) -> Fresh
         ensures { result ≡ fresh_of self regime va (word_at base ram.now 8) }
     {
-        if self.stage1_on(regime) {
-            Fresh::Ended(self.walk(regime, self.untag(regime, va), base, ram))
-        } else {
-            match self.flat(regime, va) {
-                Some(pa) => Fresh::Flat(pa),
-                None => Fresh::Ended(Err(FSC_ADDR_SIZE)),
-            }
-        }
+        self.fresh_with_reads(regime, va, base, ram).0
     }
 }
