@@ -1,2 +1,2 @@
 -- What the contracts of `reads_report` rest on.
-mod Laws
+pub mod Laws

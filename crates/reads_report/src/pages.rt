@@ -79,7 +79,9 @@ impl Pages {
     pub fn new(alloc: Global) -> Self
         ensures { length result.rows.items ≡ 0 }
     {
-        Pages { rows: Vec::new(alloc) }
+        Pages {
+            rows: Vec::new(alloc),
+        }
     }
 
     /// As it was when it was made.

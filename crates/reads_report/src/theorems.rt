@@ -5,11 +5,9 @@ ghost use Rattle.reads_report.specs.Rows.{descriptors_in, operations_in};
 ghost use Rattle.reads_report.specs.declared.pages.{Page.Page, Row.Row};
 
 /// An operation is counted once, with all that it read, and at its page alone; a page has one row.
-#[tactic(auto, using(crate::proofs::Laws::counts))]
 pub fn counting_of_operations()
     ensures { (p : Page) (n : ℕ) (rows : List Row) → Counts p n rows }
-{
-}
+{}
 
 /// The first rows and the others are all.
 #[tactic(auto, using(crate::proofs::Laws::first_and_others))]
@@ -18,5 +16,4 @@ pub fn sums_of_rows()
         → (operations_in (take n rows) + operations_in (drop n rows)) % 2 ^ 64 ≡ operations_in rows }
     ensures descriptors { (rows : List Row) (n : ℕ)
         → (descriptors_in (take n rows) + descriptors_in (drop n rows)) % 2 ^ 64 ≡ descriptors_in rows }
-{
-}
+{}

@@ -1,0 +1,36 @@
+//! What a line's comment expects of its operation: `#= ANSWER; rd=3 .. -- WHY`. Of its words `rd` is held here; the
+//! others are the oracle's.
+use crate::lex;
+use crate::lex::Words;
+use crate::reason::Refusal;
+
+/// The descriptors that an operation should read, and the column of the word that says so.
+#[derive(Clone, Copy, Debug)]
+pub struct Expected {
+    pub reads: u64,
+    pub column: usize,
+}
+
+/// What the comment of some bytes expects to be read, if it says so.
+pub fn expected(line: &[u8]) -> Result<Option<Expected>, Refusal> {
+    let before = lex::before_comment(line).len();
+    let (_, comment) = line.split_at(before);
+    let Some(text) = comment.strip_prefix(b"#=") else {
+        return Ok(None);
+    };
+    let mut words = Words::new(text);
+    for _ in 0..text.len() {
+        let Some(word) = words.next_word() else {
+            return Ok(None);
+        };
+        if word.text == b"--" {
+            return Ok(None);
+        }
+        if let Some(number) = word.text.strip_prefix(b"rd=") {
+            let column = word.column.wrapping_add(before).wrapping_add(2);
+            let reads = lex::value_of(number).map_err(|reason| Refusal { column, reason })?;
+            return Ok(Some(Expected { reads, column }));
+        }
+    }
+    Ok(None)
+}
