@@ -1,6 +1,6 @@
 -- A fetch, and where one goes, by its one translation; and where a data read goes, on plain values.
 use Rattle.std.specs.Prelude.{◌≡◌, Bool, true, false, List, ℕ, Option, Some, None, Ok, Err}
-use Rattle.std.proofs.Common.{refl, sym, ap, ◌∙◌, subst}
+use Rattle.std.proofs.Common.{refl, sym, ap, ◌∙◌}
 use Rattle.word.specs.Ram.{word_at}
 use Rattle.fault.specs.declared.Fault.{Fault}
 use Rattle.exception.specs.Abort.{insn_abort_at}
@@ -17,7 +17,7 @@ use Rattle.cpu.specs.Results.{Translated, Fetched}
 use Rattle.cpu.specs.declared.Core.{Core}
 use Rattle.cpu.specs.Bytes.{insn_of}
 use Rattle.cpu.specs.Ends.{external, fetch_end, fetched_from}
-use Rattle.cpu.specs.Step.{Stepped, after_fetch, after_address}
+use Rattle.cpu.specs.Step.{after_fetch, after_address}
 use Rattle.cpu.specs.Work.{past_hint_work, fetch_work}
 use Rattle.tlb.specs.Work.{no_work}
 use Rattle.tlb.specs.declared.work.Work.{Work}

@@ -1,6 +1,6 @@
 -- A load of one page, by its one translation, on plain values.
 use Rattle.std.specs.Prelude.{if◌then◌else◌, ◌≡◌, Bool, true, false, ◌&&◌, ◌+◌, ◌^◌, ◌<◌, ◌≤◌, List, ℕ, Option, Some, None, Ok, Err}
-use Rattle.std.proofs.Common.{refl, sym, ap, ◌∙◌, arith, le-ltb, subst}
+use Rattle.std.proofs.Common.{refl, sym, ap, ◌∙◌, arith, le-ltb}
 use native.Mathlib.Nat.{mod-eq_of_lt}
 use Rattle.word.specs.Bits.{wrap}
 use Rattle.word.specs.Ram.{word_at}
@@ -19,7 +19,7 @@ use Rattle.cpu.specs.Place.{in_page, next_page, crosses, goes_on, placed_one, pl
 use Rattle.cpu.specs.Ends.{data_abort, external, load_end, loaded_from}
 use Rattle.cpu.specs.declared.place.Place.TheVariants.{Whole, Split}
 use Rattle.cpu.proofs.Moves.{whole-value, whole-abort}
-use Rattle.cpu.specs.Step.{Stepped, after_load}
+use Rattle.cpu.specs.Step.{after_load}
 use Rattle.quick.specs.Says.{Tells, ended_of}
 use Rattle.tlb.specs.Translate.{hint_in}
 use Rattle.cpu.specs.Bytes.{load_of}

@@ -26,7 +26,7 @@ use Rattle.cpu.proofs.Moves.{whole-inside, whole-outside}
 use Rattle.quick.proofs.Both.{both-judged, both-stores}
 use Rattle.word.specs.declared.ram.Width.{Width}
 use Rattle.word.specs.declared.ram.Width.TheVariants.{Half}
-use Rattle.cpu.specs.Step.{Stepped, after_store}
+use Rattle.cpu.specs.Step.{after_store}
 use Rattle.quick.specs.Says.{Tells, PutTwo, stored_of, put_of}
 use Rattle.cpu.specs.Work.{write_work}
 use Rattle.tlb.specs.Work.{no_work}

@@ -80,7 +80,13 @@ fn leave(core: &mut Core, va: u64, answer: Result<u64, Fault>)
 
 // By a walk.
 #[inline(never)]
-fn by_walk<const INSN: bool>(core: &mut Core, va: u64, ans: &mut Report, base: u64, ram: &[u8]) -> u64
+fn by_walk<const INSN: bool>(
+    core: &mut Core,
+    va: u64,
+    ans: &mut Report,
+    base: u64,
+    ram: &[u8],
+) -> u64
     requires no_hint { fetch_found core.old.tlb.fetch core.old.privilege.level va ≡ None }
     requires needs_walk { NeedsWalkNow core.old (word_at base ram.now 8) va Fetch }
     ensures { Tells (fetch_run INSN core.old base ram.now va)
@@ -114,7 +120,13 @@ fn past_hint<const INSN: bool>(
 }
 
 #[inline(always)]
-fn by_hint<const INSN: bool>(core: &mut Core, va: u64, ans: &mut Report, base: u64, ram: &[u8]) -> u64
+fn by_hint<const INSN: bool>(
+    core: &mut Core,
+    va: u64,
+    ans: &mut Report,
+    base: u64,
+    ram: &[u8],
+) -> u64
     ensures { Tells (fetch_run INSN core.old base ram.now va)
         (fetch_work core.old (word_at base ram.now 8) va no_work) ans.old result ans.new core.new }
 {
@@ -127,7 +139,13 @@ fn by_hint<const INSN: bool>(core: &mut Core, va: u64, ans: &mut Report, base: u
 // A level above 3, or a window that ends at 2^64 or past it: the checks by name.
 #[cold]
 #[inline(never)]
-fn checked<const INSN: bool>(core: &mut Core, va: u64, ans: &mut Report, base: u64, ram: &[u8]) -> u64
+fn checked<const INSN: bool>(
+    core: &mut Core,
+    va: u64,
+    ans: &mut Report,
+    base: u64,
+    ram: &[u8],
+) -> u64
     ensures { Tells (ram_checked core.old base ram.now (fetch_run INSN core.old base ram.now va))
         (fetch_work core.old (word_at base ram.now 8) va no_work) ans.old result ans.new core.new }
 {

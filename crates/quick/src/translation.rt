@@ -164,7 +164,10 @@ pub fn data_pa(core: &mut Core, va: u64, ans: &mut Report, base: u64, ram: &[u8]
 {
     match hint::served(core, va, 1, base, ram.len() as u64) {
         Some(pa) => {
-            *ans = Report { value: pa, reads: 0 };
+            *ans = Report {
+                value: pa,
+                reads: 0,
+            };
             0
         }
         None => data_rest(core, va, ans, base, ram),
@@ -204,12 +207,22 @@ fn kind_asked(core: &mut Core, va: u64, kind: u64, ans: &mut Report, base: u64, 
 
 /// The translation of va for an access of a kind: 1 read, 2 write, 4 fetch.
 #[tactic(auto, unfolding(call_words::specs::Ops::translate_call))]
-pub fn translate(core: &mut Core, va: u64, kind: u64, ans: &mut Report, base: u64, ram: &[u8]) -> u64
+pub fn translate(
+    core: &mut Core,
+    va: u64,
+    kind: u64,
+    ans: &mut Report,
+    base: u64,
+    ram: &[u8],
+) -> u64
     ensures { Says (translate_call (kind_of kind) va) core.old base ram.now ans.old result ans.new core.new }
 {
     match hint::served(core, va, kind, base, ram.len() as u64) {
         Some(pa) => {
-            *ans = Report { value: pa, reads: 0 };
+            *ans = Report {
+                value: pa,
+                reads: 0,
+            };
             0
         }
         None => kind_asked(core, va, kind, ans, base, ram),
