@@ -47,7 +47,7 @@ fn meaning(bytes: &[u8]) -> Result<Option<(Line, Option<Expected>)>, Refusal> {
         });
     }
     match parse::parse(bytes)? {
-        Some(line) => Ok(Some((line, expected::expected(bytes)?))),
+        Some(line) => Ok(Some((line, expected::reads(bytes)?))),
         None => Ok(None),
     }
 }

@@ -12,7 +12,7 @@ pub struct Expected {
 }
 
 /// What the comment of some bytes expects to be read, if it says so.
-pub fn expected(line: &[u8]) -> Result<Option<Expected>, Refusal> {
+pub fn reads(line: &[u8]) -> Result<Option<Expected>, Refusal> {
     let before = lex::before_comment(line).len();
     let (_, comment) = line.split_at(before);
     let Some(text) = comment.strip_prefix(b"#=") else {
@@ -23,13 +23,14 @@ pub fn expected(line: &[u8]) -> Result<Option<Expected>, Refusal> {
         let Some(word) = words.next_word() else {
             return Ok(None);
         };
-        if word.text == b"--" {
-            return Ok(None);
-        }
-        if let Some(number) = word.text.strip_prefix(b"rd=") {
-            let column = word.column.wrapping_add(before).wrapping_add(2);
-            let reads = lex::value_of(number).map_err(|reason| Refusal { column, reason })?;
-            return Ok(Some(Expected { reads, column }));
+        let column = word.column.wrapping_add(before).wrapping_add(2);
+        match word.text {
+            b"--" => return Ok(None),
+            [b'r', b'd', b'=', number @ ..] => {
+                let reads = lex::value_of(number).map_err(|reason| Refusal { column, reason })?;
+                return Ok(Some(Expected { reads, column }));
+            }
+            _ => {}
         }
     }
     Ok(None)
