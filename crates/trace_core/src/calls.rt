@@ -55,7 +55,7 @@ pub struct Carried {
 
 /// Carries out a call, by the function that C calls where it has one for it. Core, RAM, reply and reads are those of the
 /// definitions: a number tells the status whole, since that is a byte of every core (`fits`).
-#[tactic(auto, unfolding(call_words::specs::Ops::translate_call), using(crate::proofs::Told::told_translation, crate::proofs::Told::told_data_pa, crate::proofs::Told::told_fetch_pa, crate::proofs::Told::told_load, crate::proofs::Told::told_store, crate::proofs::Told::told_fetch))]
+#[tactic(auto, unfolding(call_words::specs::Ops::translate_call), using(crate::proofs::Told::told_translation, crate::proofs::Told::told_data_pa, crate::proofs::Told::told_fetch_pa, crate::proofs::Told::told_load, crate::proofs::Told::told_store, crate::proofs::Told::told_fetch, crate::proofs::Told::reads_translation, crate::proofs::Told::reads_data_pa, crate::proofs::Told::reads_fetch_pa, crate::proofs::Told::reads_load, crate::proofs::Told::reads_store, crate::proofs::Told::reads_fetch))]
 pub fn carry_out(core: &mut Core, base: u64, ram: &mut [u8], call: Call) -> Carried
     ensures reply { result.reply ≡ (step_of core.old base ram.old call).reply }
     ensures reads { result.reads ≡ (step_work core.old base ram.old call no_work).reads }
