@@ -1,7 +1,6 @@
 //! What a line's comment expects of its operation: `#= ANSWER; rd=3 .. -- WHY`. Of its words `rd` is held here; the
 //! others are the oracle's.
-use crate::lex;
-use crate::lex::Words;
+use crate::lex::{self, Words};
 use crate::reason::Refusal;
 
 /// The descriptors that an operation should read, and the column of the word that says so.
@@ -13,9 +12,10 @@ pub struct Expected {
 
 /// What the comment of some bytes expects to be read, if it says so.
 pub fn reads(line: &[u8]) -> Result<Option<Expected>, Refusal> {
-    let before = lex::before_comment(line).len();
-    let (_, comment) = line.split_at(before);
-    let Some(text) = comment.strip_prefix(b"#=") else {
+    let Some(before) = line.iter().position(|b| *b == b'#') else {
+        return Ok(None);
+    };
+    let Some(text) = line[before..].strip_prefix(b"#=") else {
         return Ok(None);
     };
     let mut words = Words::new(text);
