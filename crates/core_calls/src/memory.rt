@@ -10,7 +10,14 @@ use call_words::reply::Report;
 use cpu::Core;
 
 /// The translation of `va` for an access of a kind: 1 read, 2 write, 4 fetch.
-pub fn translate(core: &mut Core, va: u64, kind: u64, ans: &mut Report, base: u64, ram: &[u8]) -> u64
+pub fn translate(
+    core: &mut Core,
+    va: u64,
+    kind: u64,
+    ans: &mut Report,
+    base: u64,
+    ram: &[u8],
+) -> u64
     ensures { Promise (translate_call (kind_of kind) va) base ram.now core.old result
         ans.old ans.new ram.now core.new }
 {

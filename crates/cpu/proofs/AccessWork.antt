@@ -1,9 +1,8 @@
 -- What an access reads, by its one translation or its two.
-use Rattle.std.specs.Prelude.{ℕ, true, false, Bool, List, Option, Ok, Err}
-use Rattle.std.proofs.Common.{◌≡◌, refl, sym, ap, ◌∙◌}
+use Rattle.std.specs.Prelude.{ℕ, true, false, Bool, Option, Ok, Err}
+use Rattle.std.proofs.Common.{◌≡◌, sym, ap, ◌∙◌}
 use Rattle.fault.specs.declared.Fault.{Fault}
-use Rattle.tlb.specs.Answers.{Answer}
-use Rattle.tlb.specs.Asks.{translates, onward, works}
+use Rattle.tlb.specs.Asks.{works}
 use Rattle.tlb.proofs.Asks.{onward-same}
 use Rattle.tlb.specs.declared.{access.Kind.Kind, work.Work.Work}
 use Rattle.cpu.specs.Asks.{access_at, asks_by}

@@ -30,7 +30,7 @@ module _ (c : Core) (base : ℕ) (ram : List ℕ) (a : ℕ) (even : a % 8 ≡ 0)
   abbrev answer_for : Answer
   answer_for = (translate_of c (word_at base ram 8) a Write).answer
 
-  one-page-only : (on : Bool) → crosses on a 8 ≡ false
+  pub one-page-only : (on : Bool) → crosses on a 8 ≡ false
   one-page-only on = go on
     where
       long : 8 ≤ in_page a

@@ -37,8 +37,10 @@ pub mod ZeroMeaning
 pub mod Step
 -- What it reads of the tables.
 pub mod Work
+pub mod Reads
 pub mod Inspect
 pub mod Cases
+pub mod ReadCases
 pub mod EveryCallEnds
 pub mod Setters
 -- Of two pages the lowest failing byte decides.

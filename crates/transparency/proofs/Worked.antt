@@ -224,11 +224,11 @@ unfolding step_of run_of translate_of stepped_now fetch_pa_of fetch_stepped_now 
 counted-by-level = refl
 
 pub worked-reads : Statement.worked_reads
-unfolding step_of run_of step_work run_work translate_of translate_work stepped_now translate_in access_work located_now located_of read_of after_access at_of at_work with_par
-    sys_of sys_work zero_of zero_work write_of ram_after_write store_end store_ram_end verdict_of store_ram stored tlbi_core invalidated_of
-    after_register_write applied_of with_regs refit_of retagged_of reshaped_of set_level set_mark same_shape asid_of asid_base
-    fresh_core zeros reg_of fresh_control fresh_sys banked_at register_at control_with sys_with write_reg missed_of named decode_of scope_of what_of tlbi_of
-    flush_of invalidate_of get_of put_of miss_in needs_walk walked_in judged walk_of table_walk walk_range walk_from fresh_reads fetches_of fetches_range
-    fetches_from lookup_next level_next leaf_result leaf_translation leaf_permissions table_next descaddr range_of params_of pa_size untagged word_at
-    little_endian bytes_of place_of blanks no_hints no_tallies
+unfolding step_of run_of step_work run_work translate_of translate_work stepped_now translate_in access_work located_now located_of read_of after_access at_of
+    at_work with_par sys_of sys_work zero_of zero_work write_of ram_after_write store_end store_ram_end verdict_of store_ram stored tlbi_core
+    invalidated_of after_register_write applied_of with_regs refit_of retagged_of reshaped_of set_level set_mark same_shape asid_of asid_base
+    fresh_core zeros reg_of fresh_control fresh_sys banked_at register_at control_with sys_with write_reg missed_of named decode_of scope_of what_of
+    tlbi_of flush_of invalidate_of get_of put_of miss_in needs_walk walked_in judged walk_of table_walk walk_range walk_from fresh_reads fetches_of
+    fetches_range fetches_from lookup_next level_next leaf_result leaf_translation leaf_permissions table_next descaddr range_of params_of pa_size
+    untagged word_at little_endian bytes_of place_of blanks no_hints no_tallies
 worked-reads = refl

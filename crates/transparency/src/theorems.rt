@@ -255,12 +255,12 @@ pub fn counter_moves()
     ensures mark { fetch_mark_free }
 {}
 
-/// After every list, the descriptors that a call reads are those of its translations: of each that the plain model
-/// walks as many as the walk fetches, on the registers and RAM at its step, whether it faults or not, and none of one
-/// that a hint, a line or the address alone answers. AT reads what its own walk does, whatever the cache holds; a
-/// refused call, and every other that translates nothing, reads none. Rules out a core that walks each time and reports
-/// none, one that reports what it did not read, as an entry's old walk, the second page or a later store of a zeroing
-/// left out, and an AT that reads less where the cache could answer.
+/// After every list, the descriptors that a call reads are those of its translations: where the plain model walks, as
+/// many as the walk fetches on the registers and RAM at its step, whether it faults or not; where a hint, a line or the
+/// address alone answers, none. AT reads what its own walk does, whatever the cache holds; a refused call, and any
+/// other that translates nothing, none. Rules out a core that walks each time and reports none, one that reports what
+/// it did not read, as an entry's old walk, one that leaves out the second page or a later store of a zeroing, and an
+/// AT that reads less where the cache could answer.
 pub fn every_read()
     ensures call { EveryCall call_reads }
     ensures each { each_reads }

@@ -155,7 +155,10 @@ impl Core for PlainCore {
         let bytes = unsafe { std::slice::from_raw_parts_mut(at, len) };
         let mut window = a72::Ram::new(ram.base, bytes);
         let answer = step(&mut self.core, op, &mut window).unwrap_or_else(|stop| stopped(op, stop));
-        self.reads = 0; // self.core.report().reads;
+        // A census takes the core to be looked at alone, and leaves the report of the operation before it.
+        if !matches!(op, Op::Census(..)) {
+            self.reads = self.core.report().reads;
+        }
         answer
     }
 

@@ -1,0 +1,5 @@
+-- What the proofs share.
+pub mod Blocks
+pub mod Windows
+pub mod Lists
+pub mod Steps
