@@ -20,6 +20,8 @@ pub enum Wrong {
     Number(&'static str),
     #[error("LEVEL: 0, 1, 2 or 3")]
     Level,
+    #[error("N: not a decimal number of 32 bits")]
+    Rows,
     #[error("the kind of access is read, write or fetch")]
     Kind,
     #[error("{0}: File name too long")]
