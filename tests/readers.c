@@ -321,6 +321,8 @@ static void steps(void) {
     const uint64_t none[8] = {A72_OP_CENSUS + 1, 0, 0, 0, 0, 0, 0, 0};
     const uint64_t at_s1e1r[8] = {A72_OP_SYSTEM, A72_AT_S1E1R, 1, 0, 0};
     uint64_t ans[5] = {7, 7, 7, 7, 7};
+    a72_answer all;
+    a72_system(core, A72_TLBI_VMALLE1, 31, &all, BASE, ram, LEN);
     a72_general(core, 1, VA);
     MUST(answers(load, A72_ANSWER_VALUE, 5, 3) && answers(odd, A72_ANSWER_CHECK, A72_CHECK_SIZE, 0));
     MUST(answers(load, A72_ANSWER_VALUE, 5, 0) && answers(at_s1e1r, A72_ANSWER_DONE, 0, 3));
