@@ -31,7 +31,7 @@ judged-leaf : (r : Regime) (p : Privilege) (k : Kind) (va : ℕ) (leaf : Leaf) �
     → judged (entry_for leaf 0 0) (user_of r p k) k va ≡ answer_by (Ok leaf) (need k (as_user r p.level p.unprivileged k)) va
 unfolding judge
 judged-leaf r p k va leaf h =
-    let a : Access = record { privilege = p; kind = k; va = va; on = true; regime = r; untagged = 0; walk = Ok leaf } in
+    let a : Access = record { privilege = p; kind = k; va = va; on = true; regime = r; untagged = 0; walk = Ok leaf; reads = 0 } in
     let framed : leaf.oa / 4096 * 4096 / 4096 ≡ leaf.oa / 4096 = omega arith in
     let bit = need k (as_user r p.level p.unprivileged k) in
     judged-is 0 r (entry_for leaf 0 0) a (record { early = omega arith; aligned = omega arith; level = h })
