@@ -22,8 +22,10 @@
  *
  * Numbers. Each function that may be refused gives a number: A72_DONE, that of a check that the call misses,
  * A72_NAMES_NOTHING, A72_UNDEFINED, A72_UNIMPLEMENTED, or A72_FAULT plus the status of a fault. From 1 to 66 nothing
- * is written: not the core, not RAM, not the answer's word or counts. Where a fault's address is not said to stand in
- * *ans, *ans stays. A fault has been taken by nobody: a72_abort takes it.
+ * is written: not the core, not RAM, not the answer or counts. A fault has been taken by nobody: a72_abort takes it.
+ *
+ * Answers. What a call has to say beside its number stands in an a72_answer. With A72_DONE and with a fault its `reads`
+ * is always written; its `value` where this is said, and otherwise it stays.
  */
 #ifndef A72_H
 #define A72_H
@@ -229,7 +231,8 @@ static inline uint8_t a72_status(uint64_t number) { return (uint8_t)(number - A7
 #define A72_PAR_EL1 A72_KEY(3, 0, 7, 4, 0)
 
 /* System operations by name: op1, CRn, CRm and op2, as four arguments of a72_system, before the register's number:
- * `a72_system(core, A72_TLBI_VAE1, 1, &ans, base, ram, len)` is TLBI VAE1, X1. Those that take no register are given 31. */
+ * `a72_system(core, A72_TLBI_VAE1, 1, &answer, base, ram, len)` is TLBI VAE1, X1. Those that take no register are
+ * given 31. */
 #define A72_TLBI_VMALLE1IS 0, 8, 3, 0
 #define A72_TLBI_VMALLE1 0, 8, 7, 0
 #define A72_TLBI_ALLE2IS 4, 8, 3, 0
@@ -288,37 +291,48 @@ static inline uint8_t a72_status(uint64_t number) { return (uint8_t)(number - A7
 
 /* ---- The calls ---- */
 
-/* The physical address of `va` for an access of this kind at the present level, in *ans. A fault is at `va`. With
+/* What a call says beside its number.
+ *
+ * The reads are those of all walks that the call made. A walk reads at most four descriptors (three with pages of
+ * 64 KiB), and none where the address is out of range, its range disabled or the table's base too large. A translation
+ * makes no walk where a hint, an entry or stage 1 off answers it, AT none with stage 1 off; any other makes one. An
+ * access over two pages translates both, but where the first faults; DC ZVA up to its first store that faults. */
+typedef struct a72_answer {
+    uint64_t value; /* what it gives, or of a fault the address, as said of each call */
+    uint64_t reads; /* the descriptors read, one that lies outside RAM too */
+} a72_answer;
+
+/* The physical address of `va` for an access of this kind at the present level is the value. A fault is at `va`. With
  * stage 1 off: `va` without its tag where TBI drops that, and from 2^44 on status 0x00. An access is then judged by
  * its first byte, and its bytes lie from there on. */
-uint64_t a72_translate(a72_core *core, uint64_t va, uint64_t kind, uint64_t *ans, uint64_t base,
+uint64_t a72_translate(a72_core *core, uint64_t va, uint64_t kind, a72_answer *answer, uint64_t base,
                        const uint8_t *ram, size_t len);
 
 /* Where a data read of `va` would go, and where a fetch; A72_FAULT, with no status, where it would fault. */
-uint64_t a72_data_pa(a72_core *core, uint64_t va, uint64_t *ans, uint64_t base, const uint8_t *ram,
+uint64_t a72_data_pa(a72_core *core, uint64_t va, a72_answer *answer, uint64_t base, const uint8_t *ram,
                      size_t len);
-uint64_t a72_fetch_pa(a72_core *core, uint64_t va, uint64_t *ans, uint64_t base, const uint8_t *ram,
+uint64_t a72_fetch_pa(a72_core *core, uint64_t va, a72_answer *answer, uint64_t base, const uint8_t *ram,
                       size_t len);
 
-/* `size` bytes (1, 2, 4, 8) at `va`, zero-extended, in *ans. Of a fault *ans has the address: `va`, but of an access
+/* `size` bytes (1, 2, 4, 8) at `va`, zero-extended, are the value. Of a fault it is the address: `va`, but of an access
  * over two pages the lowest failing byte's. The first page's bytes outside RAM come before a fault of the second. */
-uint64_t a72_load(a72_core *core, uint64_t va, uint64_t size, uint64_t *ans, uint64_t base,
+uint64_t a72_load(a72_core *core, uint64_t va, uint64_t size, a72_answer *answer, uint64_t base,
                   const uint8_t *ram, size_t len);
 
-/* The low `size` bytes of `value` to `va`. Of a fault *ans has the address; otherwise *ans stays. Both pages are
- * translated before a byte is written. Of an access over two pages the address is the lowest failing byte's: the first
- * page's bytes outside RAM come before a fault of the second. */
-uint64_t a72_store(a72_core *core, uint64_t va, uint64_t size, uint64_t value, uint64_t *ans,
+/* The low `size` bytes of `value` to `va`. Of a fault the answer's value is the address. Both pages are translated
+ * before a byte is written. Of an access over two pages the address is the lowest failing byte's: the first page's
+ * bytes outside RAM come before a fault of the second. */
+uint64_t a72_store(a72_core *core, uint64_t va, uint64_t size, uint64_t value, a72_answer *answer,
                    uint64_t base, uint8_t *ram, size_t len);
 
-/* The instruction at `va`, in the low 32 bits of *ans. A fault is at `va`. */
-uint64_t a72_fetch(a72_core *core, uint64_t va, uint64_t *ans, uint64_t base, const uint8_t *ram,
+/* The instruction at `va` is in the low 32 bits of the value. A fault is at `va`. */
+uint64_t a72_fetch(a72_core *core, uint64_t va, a72_answer *answer, uint64_t base, const uint8_t *ram,
                    size_t len);
 
 /* SYS: TLBI, AT, DC ZVA; other cache maintenance does nothing. `rt` is the number of the general register. Of a fault
- * of DC ZVA *ans has the address; otherwise *ans stays. AT answers in PAR_EL1. */
+ * of DC ZVA the value is the address. AT answers in PAR_EL1. */
 uint64_t a72_system(a72_core *core, uint64_t op1, uint64_t crn, uint64_t crm, uint64_t op2, uint64_t rt,
-                    uint64_t *ans, uint64_t base, uint8_t *ram, size_t len);
+                    a72_answer *answer, uint64_t base, uint8_t *ram, size_t len);
 
 /* Writes a system register by its key: its mask applies, and the cache forgets what the write unsettles. */
 uint64_t a72_register(a72_core *core, uint64_t key, uint64_t value);
@@ -347,14 +361,15 @@ uint64_t a72_census(a72_core *core, uint64_t first, uint64_t pages, uint64_t cou
 
 /* One walk of the tables without a core, for those who keep a cache of their own. `registers`: SCTLR, TCR and
  * TTBR0 of the regime, TTBR1_EL1, SCR_EL3, HCR_EL2. `regime`: 1 EL1 and EL0, 2 EL2, 3 EL3. `va` has no tag.
- * `leaf`: output address, descriptor, permissions (as in an entry), level, and 1 where it holds for every ASID. */
-uint64_t a72_walk(const uint64_t registers[6], uint64_t regime, uint64_t va, uint64_t leaf[5], uint64_t base,
+ * `leaf`: output address, descriptor, permissions (as in an entry), level, 1 where it holds for every ASID, and how
+ * many descriptors were read. Of a fault the sixth alone is written. */
+uint64_t a72_walk(const uint64_t registers[6], uint64_t regime, uint64_t va, uint64_t leaf[6], uint64_t base,
                   const uint8_t *ram, size_t len);
 
-/* Any operation by its words. A72_DONE, and all four words of `ans` are written, also where the operation is refused
+/* Any operation by its words. A72_DONE, and all five words of `answer` are written, also where the operation is refused
  * or faults; or A72_NAMES_NOTHING, and nothing is written. */
 uint64_t a72_step(const uint64_t op[8], a72_core *core, uint64_t base, uint8_t *ram, size_t len,
-                  uint64_t ans[4]);
+                  uint64_t answer[5]);
 
 /* The eight words of an operation: its code and its arguments; all else is 0. */
 #define A72_OP_TRANSLATE 1 /* kind, address */
@@ -371,7 +386,8 @@ uint64_t a72_step(const uint64_t op[8], a72_core *core, uint64_t base, uint8_t *
 #define A72_OP_ABORT 12    /* the four words of an exception */
 #define A72_OP_CENSUS 13   /* first address, pages: whether it is done; the counts are a72_census's */
 
-/* The four words of an answer: its code and what is said beside it; all else is 0. */
+/* The five words of an answer: its code and what is said beside it, all else 0; the fifth has the descriptors read, as
+ * an a72_answer has them, and 0 where the operation is refused. */
 #define A72_ANSWER_DONE 0
 #define A72_ANSWER_VALUE 1      /* value: an address of translate, data_pa, fetch_pa; what load and fetch read */
 #define A72_ANSWER_NONE 2       /* data_pa and fetch_pa: it would fault */

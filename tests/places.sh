@@ -1,6 +1,6 @@
 #!/bin/sh
 # The C interface is one wherever it is written: the places of a saved core's words, the memory of a core, the numbers that the functions give, the counts of
-# a census, the keys of the registers, the system operations, and each function's parameters. Compares the library (crates/), include/a72.h, bindings/rust/src and bindings/rust-archive/src, line by line;
+# a census, the fields of an answer, the keys of the registers, the system operations, and each function's parameters. Compares the library (crates/), include/a72.h, bindings/rust/src and bindings/rust-archive/src, line by line;
 # of keys and operations also tests/names.txt, which tests/tool.sh holds the tool to. Wants nothing.
 # Its last line is 'N lines are one in all tables'; where two differ it names both and the place, and ends with 1.
 set -eu
@@ -76,6 +76,15 @@ awk "$constants" bindings/rust/src/count.rs | table bindings/rust/src/count.rs
 awk '/^#define A72_(COUNTS|COUNT_[A-Z]+|MOST_PAGES) [0-9]+/ { sub(/^A72_(COUNT_)?/, "", $2); print $2, $3 }' $header | table $header
 one count bindings/rust/src/count.rs $header
 counts=$(sed -n 's/^COUNTS //p' "$work/$header")
+
+# The fields of an answer, in their order: NAME TYPE.
+awk '/^pub struct Report / { on = 1; next } /^}/ { on = 0 } on && /^    pub / { gsub(/[:,]/, ""); print $2, $3 }' crates/call_words/src/reply.rt |
+    table crates/call_words/src/reply.rt
+awk '/^pub struct Answer / { on = 1; next } /^}/ { on = 0 } on && /^    pub / { gsub(/[:,]/, ""); print $2, $3 }' bindings/rust-archive/src/library.rs |
+    table answer/library.rs
+awk '/^typedef struct a72_answer / { on = 1; next } /^}/ { on = 0 } on { sub(/_t$/, "", $1); sub("uint", "u", $1); sub(";", "", $2); print $2, $1 }' $header |
+    table answer/a72.h
+for other in answer/a72.h answer/library.rs; do one answer crates/call_words/src/reply.rt "$other"; done
 
 # Keys of registers: NAME OP0 OP1 CRN CRM OP2.
 awk '/^    [A-Z0-9_]+ [0-9]+ [0-9]+ [0-9]+ [0-9]+, place::/ { sub(",", "", $5); print $1, 3, $2, $3, $4, $5 }' bindings/rust/src/registers.rs |

@@ -29,6 +29,11 @@ static struct a72_entry entry(a72_core *c, uint64_t slot) {
     return e;
 }
 
+/* Whether an answer has this value and this number of descriptors read. */
+static int is(a72_answer answer, uint64_t value, uint64_t reads) {
+    return answer.value == value && answer.reads == reads;
+}
+
 /* Pages of RAM at their own addresses, and page 9 outside it; stage 1 on, at EL1. */
 static void set_up(void) {
     put(BASE + 0x1008, (BASE + 0x2000) | 3);
@@ -73,7 +78,7 @@ static void registers(void) {
 /* A refused call has its number, and writes nothing. */
 static void refusals(void) {
     a72_saved before, after;
-    uint64_t ans = 7;
+    a72_answer ans = {7, 8};
     const uint64_t wide[4] = {A72_EXCEPTION_SVC, 0x10000, 0, 0};
     a72_save(core, before);
     MUST(a72_level(core, 4) == A72_CHECK_LEVEL);
@@ -92,20 +97,21 @@ static void refusals(void) {
     MUST(a72_receive(core, A72_PENDING_ASID, 0x10000) == A72_NAMES_NOTHING);
     MUST(a72_set_generation(core, UINT64_C(1) << 32) == A72_NAMES_NOTHING);
     a72_save(core, after);
-    MUST(ans == 7 && memcmp(before, after, sizeof before) == 0);
+    MUST(ans.value == 7 && ans.reads == 8 && memcmp(before, after, sizeof before) == 0);
 }
 
 static void accesses(void) {
-    uint64_t ans = 0, slot = (PAGE ^ PAGE >> 5 ^ PAGE >> 10) % 256;
-    MUST(a72_store(core, VA, 4, 5, &ans, BASE, ram, LEN) == A72_DONE && ram[VA - BASE] == 5);
-    MUST(a72_load(core, VA, 4, &ans, BASE, ram, LEN) == A72_DONE && ans == 5 && a72_get_last_pa(core) == VA);
-    MUST(a72_fetch(core, VA, &ans, BASE, ram, LEN) == A72_DONE && ans == 5);
-    MUST(a72_translate(core, VA, A72_WRITE, &ans, BASE, ram, LEN) == A72_DONE && ans == VA);
-    MUST(a72_data_pa(core, VA, &ans, BASE, ram, LEN) == A72_DONE && ans == VA);
-    MUST(a72_fetch_pa(core, VA, &ans, BASE, ram, LEN) == A72_DONE && ans == VA);
-    MUST(a72_data_pa(core, UNMAPPED, &ans, BASE, ram, LEN) == A72_FAULT && a72_is_fault(A72_FAULT));
+    uint64_t slot = (PAGE ^ PAGE >> 5 ^ PAGE >> 10) % 256;
+    a72_answer ans = {7, 8};
+    MUST(a72_store(core, VA, 4, 5, &ans, BASE, ram, LEN) == A72_DONE && ram[VA - BASE] == 5 && is(ans, 7, 3));
+    MUST(a72_load(core, VA, 4, &ans, BASE, ram, LEN) == A72_DONE && is(ans, 5, 0) && a72_get_last_pa(core) == VA);
+    MUST(a72_fetch(core, VA, &ans, BASE, ram, LEN) == A72_DONE && is(ans, 5, 0));
+    MUST(a72_translate(core, VA, A72_WRITE, &ans, BASE, ram, LEN) == A72_DONE && is(ans, VA, 0));
+    MUST(a72_data_pa(core, VA, &ans, BASE, ram, LEN) == A72_DONE && is(ans, VA, 0));
+    MUST(a72_fetch_pa(core, VA, &ans, BASE, ram, LEN) == A72_DONE && is(ans, VA, 0));
+    MUST(a72_data_pa(core, UNMAPPED, &ans, BASE, ram, LEN) == A72_FAULT && a72_is_fault(A72_FAULT) && is(ans, VA, 1));
     MUST(a72_load(core, BASE + 0x9010, 4, &ans, BASE, ram, LEN) == A72_FAULT + 0x10);
-    MUST(ans == BASE + 0x9010 && a72_get_abort_pa(core) == 0x80000010);
+    MUST(is(ans, BASE + 0x9010, 3) && a72_get_abort_pa(core) == 0x80000010);
     MUST(!a72_is_fault(A72_UNIMPLEMENTED) && !a72_is_fault(A72_FAULT + 256) && a72_status(A72_FAULT + 0x10) == 0x10);
     struct a72_entry e = entry(core, PAGE % A72_ENTRIES);
     MUST(e.tag == PAGE * 4 + 1 && e.pa == PAGE << 12 && e.level == 3 && e.permissions == 0x3C);
@@ -125,7 +131,8 @@ static void accesses(void) {
 /* A TLBI of the Inner Shareable forms drops the page here, and is pending for others: another core that receives it drops the
  * same. */
 static void invalidation(void) {
-    uint64_t ans = 0, x = UINT64_C(3) << 48 | PAGE;
+    uint64_t x = UINT64_C(3) << 48 | PAGE;
+    a72_answer ans;
     struct a72_counters before = a72_get_counters(core);
     struct a72_fetch_hint f;
     struct a72_pending p, none;
@@ -151,7 +158,7 @@ static void invalidation(void) {
 
 /* Hits and walks are those of the level of the access, which the mark does not lower; the totals wrap. */
 static void levels(void) {
-    uint64_t ans = 0;
+    a72_answer ans;
     MUST(a72_system(core, 0, 8, 7, 0, 0, &ans, BASE, ram, LEN) == A72_DONE);
     struct a72_counters before = a72_get_counters(core);
     a72_level(core, 0);
@@ -176,6 +183,43 @@ static void levels(void) {
     MUST(a72_get_counters(c).level_hits[3] == UINT64_MAX - after.level_hits[1] && a72_get_counters(c).level_walks[2] == UINT64_MAX);
     MUST(a72_total_hits(a72_get_counters(c)) == UINT64_MAX + after.level_hits[0]);
     MUST(a72_total_walks(a72_get_counters(c)) == a72_total_walks(after) - 1);
+}
+
+/* The descriptors that a call read: of each walk that it made, and of no other call any. */
+static void reads(void) {
+    a72_answer ans = {7, 8};
+    const uint64_t next = (PAGE + 1) << 12, edge = next - 4, hole = BASE + LEN;
+    MUST(a72_system(core, A72_TLBI_VMALLE1, 31, &ans, BASE, ram, LEN) == A72_DONE && is(ans, 7, 0));
+    /* two pages: both walked, one, none; where the first faults one */
+    MUST(a72_load(core, edge, 8, &ans, BASE, ram, LEN) == A72_DONE && ans.reads == 6);
+    MUST(a72_load(core, edge, 8, &ans, BASE, ram, LEN) == A72_DONE && ans.reads == 0);
+    a72_general(core, 1, PAGE);
+    MUST(a72_system(core, A72_TLBI_VAE1, 1, &ans, BASE, ram, LEN) == A72_DONE && ans.reads == 0);
+    ans.value = 7;
+    MUST(a72_store(core, edge, 8, 0, &ans, BASE, ram, LEN) == A72_DONE && is(ans, 7, 3));
+    MUST(a72_store(core, hole - 4, 8, 0, &ans, BASE, ram, LEN) == A72_FAULT + 7 && is(ans, hole, 6));
+    MUST(a72_store(core, hole + 0xFFC, 8, 0, &ans, BASE, ram, LEN) == A72_FAULT + 7 && is(ans, hole + 0xFFC, 3));
+    /* zeroing, by its eight stores and by a hint; where its page faults */
+    a72_general(core, 1, next + 0x1000);
+    MUST(a72_system(core, A72_DC_ZVA, 1, &ans, BASE, ram, LEN) == A72_DONE && ans.reads == 3);
+    MUST(a72_system(core, A72_DC_ZVA, 1, &ans, BASE, ram, LEN) == A72_DONE && ans.reads == 0);
+    a72_general(core, 1, hole + 8);
+    MUST(a72_system(core, A72_DC_ZVA, 1, &ans, BASE, ram, LEN) == A72_FAULT + 7 && is(ans, hole, 3));
+    /* AT walks whatever is cached; with stage 1 off, at EL3, it does not */
+    a72_general(core, 1, VA);
+    MUST(a72_system(core, A72_AT_S1E1R, 1, &ans, BASE, ram, LEN) == A72_DONE && ans.reads == 3);
+    a72_level(core, 3);
+    MUST(a72_system(core, A72_AT_S1E3R, 1, &ans, BASE, ram, LEN) == A72_DONE && ans.reads == 0);
+    MUST(a72_load(core, VA, 4, &ans, BASE, ram, LEN) == A72_DONE && ans.reads == 0);
+    a72_level(core, 1);
+    /* a fault by an entry reads nothing; an address out of range neither; a table outside RAM counts */
+    a72_level(core, 0);
+    MUST(a72_translate(core, VA, A72_READ, &ans, BASE, ram, LEN) == A72_FAULT + 0x0F && ans.reads == 0);
+    a72_level(core, 1);
+    MUST(a72_fetch_pa(core, UINT64_C(1) << 39, &ans, BASE, ram, LEN) == A72_FAULT && ans.reads == 0);
+    put(BASE + 0x1000, 0x80000003);
+    MUST(a72_translate(core, UNMAPPED, A72_READ, &ans, BASE, ram, LEN) == A72_FAULT + 0x16 && ans.reads == 2);
+    put(BASE + 0x1000, 0);
 }
 
 /* PSTATE as an SPSR's word; the level is not set by it. */
@@ -214,7 +258,7 @@ static void saved(void) {
 
 /* As if flushes had gone by: what is live stays live. */
 static void generations(void) {
-    uint64_t ans = 0;
+    a72_answer ans;
     a72_core *c = a72_copy(&other, core);
     MUST(a72_load(c, VA, 4, &ans, BASE, ram, LEN) == A72_DONE);
     MUST(a72_set_generation(c, 77) == A72_DONE && a72_get_generation(c) == 77);
@@ -224,11 +268,14 @@ static void generations(void) {
 static void walk(void) {
     const uint64_t registers[6] = {a72_get_sctlr(core, 1),     a72_get_tcr(core, 1),  a72_get_ttbr0(core, 1),
                                    a72_get_ttbr1_el1(core), a72_get_scr_el3(core), a72_get_hcr_el2(core)};
-    uint64_t leaf[5];
-    MUST(a72_walk(registers, 1, VA, leaf, BASE, ram, LEN) == A72_DONE);
+    uint64_t leaf[6];
+    MUST(a72_walk(registers, 1, VA, leaf, BASE, ram, LEN) == A72_DONE && leaf[5] == 3);
     MUST(leaf[0] == VA && leaf[1] == (PAGE << 12) + 0x403 && leaf[2] == 0x3C && leaf[3] == 3 && leaf[4] == 1);
-    MUST(a72_walk(registers, 1, UNMAPPED, leaf, BASE, ram, LEN) == A72_FAULT + 5);
-    MUST(a72_walk(registers, 4, VA, leaf, BASE, ram, LEN) == A72_NAMES_NOTHING);
+    MUST(a72_walk(registers, 1, UNMAPPED, leaf, BASE, ram, LEN) == A72_FAULT + 5 && leaf[0] == VA && leaf[5] == 1);
+    MUST(a72_walk(registers, 1, UINT64_C(1) << 39, leaf, BASE, ram, LEN) == A72_FAULT + 4 && leaf[5] == 0);
+    leaf[5] = 7;
+    MUST(a72_walk(registers, 4, VA, leaf, BASE, ram, LEN) == A72_NAMES_NOTHING && leaf[5] == 7);
+    MUST(a72_walk(registers, 1, VA, leaf, UINT64_MAX, ram, LEN) == A72_CHECK_WINDOW && leaf[5] == 7);
 }
 
 /* The counts of a census, the core as it was; and of one that is refused none. */
@@ -254,10 +301,10 @@ static void census(void) {
     a72_level(core, 1);
 }
 
-/* One operation by its words: whether the answer has this code and this word after it. */
-static int answers(const uint64_t op[8], uint64_t code, uint64_t word) {
-    uint64_t ans[4];
-    return a72_step(op, core, BASE, ram, LEN, ans) == A72_DONE && ans[0] == code && ans[1] == word;
+/* One operation by its words: whether the answer has this code, this word after it, and this many descriptors read. */
+static int answers(const uint64_t op[8], uint64_t code, uint64_t word, uint64_t reads) {
+    uint64_t ans[5] = {7, 7, 7, 7, 7};
+    return a72_step(op, core, BASE, ram, LEN, ans) == A72_DONE && ans[0] == code && ans[1] == word && ans[4] == reads;
 }
 
 static void steps(void) {
@@ -272,16 +319,21 @@ static void steps(void) {
     const uint64_t past[8] = {A72_OP_CENSUS, UINT64_MAX, 2, 0, 0, 0, 0, 0};
     const uint64_t svc[8] = {A72_OP_ABORT, A72_EXCEPTION_SVC, 5, 0, 0, 0, 0, 0};
     const uint64_t none[8] = {A72_OP_CENSUS + 1, 0, 0, 0, 0, 0, 0, 0};
-    uint64_t ans[4];
-    MUST(answers(load, A72_ANSWER_VALUE, 5) && answers(odd, A72_ANSWER_CHECK, A72_CHECK_SIZE));
-    MUST(answers(store, A72_ANSWER_DATA_ABORT, UNMAPPED) && answers(fetch, A72_ANSWER_INSN_ABORT, UNMAPPED));
-    MUST(answers(translate, A72_ANSWER_FAULT, UNMAPPED) && answers(fetch_pa, A72_ANSWER_NONE, 0));
-    MUST(answers(tlbi_alle2, A72_ANSWER_UNIMPLEMENTED, 0));
-    MUST(answers(counts, A72_ANSWER_DONE, 0) && answers(past, A72_ANSWER_CHECK, A72_CHECK_RANGE));
-    MUST(answers(down, A72_ANSWER_DONE, 0) && answers(tlbi_alle2, A72_ANSWER_UNDEFINED, 0));
+    const uint64_t at_s1e1r[8] = {A72_OP_SYSTEM, A72_AT_S1E1R, 1, 0, 0};
+    uint64_t ans[5] = {7, 7, 7, 7, 7};
+    a72_answer all;
+    a72_system(core, A72_TLBI_VMALLE1, 31, &all, BASE, ram, LEN);
+    a72_general(core, 1, VA);
+    MUST(answers(load, A72_ANSWER_VALUE, 5, 3) && answers(odd, A72_ANSWER_CHECK, A72_CHECK_SIZE, 0));
+    MUST(answers(load, A72_ANSWER_VALUE, 5, 0) && answers(at_s1e1r, A72_ANSWER_DONE, 0, 3));
+    MUST(answers(store, A72_ANSWER_DATA_ABORT, UNMAPPED, 1) && answers(fetch, A72_ANSWER_INSN_ABORT, UNMAPPED, 1));
+    MUST(answers(translate, A72_ANSWER_FAULT, UNMAPPED, 1) && answers(fetch_pa, A72_ANSWER_NONE, 0, 1));
+    MUST(answers(tlbi_alle2, A72_ANSWER_UNIMPLEMENTED, 0, 0));
+    MUST(answers(counts, A72_ANSWER_DONE, 0, 0) && answers(past, A72_ANSWER_CHECK, A72_CHECK_RANGE, 0));
+    MUST(answers(down, A72_ANSWER_DONE, 0, 0) && answers(tlbi_alle2, A72_ANSWER_UNDEFINED, 0, 0));
     a72_set_pc(core, 0x1000);
-    MUST(answers(svc, A72_ANSWER_DONE, 0) && a72_get_elr(core, 1) == 0x1004 && a72_get_pc(core) == 0x400);
-    MUST(a72_step(none, core, BASE, ram, LEN, ans) == A72_NAMES_NOTHING);
+    MUST(answers(svc, A72_ANSWER_DONE, 0, 0) && a72_get_elr(core, 1) == 0x1004 && a72_get_pc(core) == 0x400);
+    MUST(a72_step(none, core, BASE, ram, LEN, ans) == A72_NAMES_NOTHING && ans[0] == 7 && ans[4] == 7);
 }
 
 int main(void) {
@@ -291,6 +343,7 @@ int main(void) {
     accesses();
     invalidation();
     levels();
+    reads();
     flags();
     saved();
     generations();

@@ -78,7 +78,7 @@ a72/src/stop.rt: no command
 a72/src/stop.rt: the proved core lost a tone of the chord
 a72/src/stop.rt: out of memory
 UNSHOWN
-(cd crates && awk -v shown="$work/shown" -f ../tests/texts.awk manual_words/src/*.rt walk_report/src/*.rt census_report/src/*.rt counters_report/src/*.rt chord/src/*.rt trace_file/src/*.rt \
+(cd crates && awk -v shown="$work/shown" -f ../tests/texts.awk manual_words/src/*.rt walk_report/src/*.rt census_report/src/*.rt counters_report/src/*.rt reads_report/src/*.rt chord/src/*.rt trace_file/src/*.rt \
     a72/src/*.rt trace_text/src/reason.rt) | grep -vxF -f "$work/unshown" >"$work/told"
 [ ! -s "$work/told" ] && pass || { fail 'texts of the tool that no sample shows' && sed 's/^/    /' "$work/told"; }
 
@@ -102,17 +102,76 @@ says() {
 layout=tests/instrument.trace
 for t in recorded/*.trace "$layout"; do counted_as "$t"; done
 says 'nothing was walked' ''
-says '  all            0            0        -' ''
+says 'no descriptor was read' ''
+says '  all            0            0            0        -' ''
 says 'EL0 walks most: 5 of 5 walks' 'p-cnt 5'
 says 'flushes 5, pages dropped 5, epoch 5' 'p-cnt 5'
 says 'EL1 and EL3 walk most: each 2 of 5 walks' "$(printf 'w-word 1459 1\nw-word 145a 2\nw-word 145c 2')"
-says '  EL2         1999            1    <0.1%  #.......................................' "$(printf 'w-word 1457 7cf\nw-word 145b 1')"
-says '  EL2          998            2     0.2%  #.......................................' "$(printf 'w-word 1457 3e6\nw-word 145b 2')"
+says '  EL2         1999            1            0    <0.1%  #.......................................' "$(printf 'w-word 1457 7cf\nw-word 145b 1')"
+says '  EL2          998            2            0     0.2%  #.......................................' "$(printf 'w-word 1457 3e6\nw-word 145b 2')"
 most=ffffffffffffffff
 large=$(printf "w-word 1455 $most\nw-word 1459 $most\nw-word 1458 1\nw-word 145c 1")
-says '  EL0  18446744073709551615  18446744073709551615    50.0%  ####################....................' "$large"
-says '  all                     0                     0  modulo 2^64' "$large"
+says '  EL0  18446744073709551615  18446744073709551615            0    50.0%  ####################....................' "$large"
+says '  all                     0                     0            0  modulo 2^64' "$large"
 says 'EL0 walks most: 18446744073709551615 walks' "$large"
+
+# read_as TRACE: what `a72 run` shows as read since the last `fresh` is what `a72 reads` and `a72 counters` add up to, and so many operations read some.
+read_as() {
+    after=$(awk '$1 == "fresh" { n = NR } END { print n + 0 }' "$1")
+    told=$("$tool" run "$1" --short | awk -v after="$after" '
+        $1 > after && match($0, / rd=[0-9a-f]+$/) {
+            word = substr($0, RSTART + 4)
+            for (n = 0; word != ""; word = substr(word, 2)) n = n * 16 + index("0123456789abcdef", substr(word, 1, 1)) - 1
+            all += n
+            some += n > 0
+        }
+        END { print some + 0, all + 0 }')
+    "$tool" reads "$1" 4294967295 >"$work/out" 2>"$work/err"
+    table=$(awk '/^  EL[0-3] / { some += $4; all += $5 } /^  all / { if (some != $4 || all != $5) all = "otherwise" } END { print some + 0, all + 0 }' "$work/out")
+    levels=$("$tool" counters "$1" | awk '/^  EL[0-3] / { all += $4 } /^  all / { if (all != $4) all = "otherwise" } END { print all + 0 }')
+    if [ ! -s "$work/err" ] && [ "$table" = "$told" ] && [ "$levels" = "${told#* }" ]; then pass; else fail "reads $1: $table, by level $levels, not $told"; fi
+}
+
+for t in recorded/*.trace "$layout" tests/crackle.trace; do read_as "$t"; done
+for seed in $(seq 1 "$seeds"); do "$rust/generate" "$seed" 3000 --strict >"$work/trace" && read_as "$work/trace"; done
+# The pages and levels of each: of a trace whose addresses have no tag, by the addresses of its lines.
+"$tool" run "$layout" --short | awk '
+    $2 == "level" { level = $3 }
+    $2 == "tr" && !/ rd=0$/ { page = sprintf("EL%d %s000", level, substr($4, 1, length($4) - 3)); n[page]++ }
+    END { for (page in n) print page, n[page] }' | sort >"$work/want"
+"$tool" reads "$layout" 100 | awk '/^  EL[0-3] / { sub(/^0*/, "", $2); print $1, $2, $4 }' | sort >"$work/out"
+[ -s "$work/want" ] && cmp -s "$work/want" "$work/out" && pass || fail 'the pages of a72 reads'
+# The rows that are shown and the others are all, however many are asked for.
+for rows in 0 1 3 4 5 007; do
+    "$tool" reads tests/crackle.trace $rows >"$work/out" 2>&1
+    shown=$(awk '/^  (EL|others)/ { n += $4; d += $5; rows += /^  EL/ } /^  all / { if (n == $4 && d == $5) print rows }' "$work/out")
+    [ "$shown" = $((rows < 4 ? rows : 4)) ] && pass || fail "reads with $rows rows"
+done
+"$tool" reads - <tests/crackle.trace >"$work/ours" 2>&1
+"$tool" reads tests/crackle.trace | cmp -s - "$work/ours" && pass || fail 'reads of standard input'
+
+# expects STATUS MESSAGE TRACE: what the trace's comments expect to be read is held, and the message is that, place first.
+expects() {
+    printf '%s\n' "$3" >"$work/trace"
+    "$tool" run "$work/trace" --short >"$work/out" 2>"$work/err"
+    if [ $? = "$1" ] && [ "$(cat "$work/err")" = "${2:+a72: $work/trace:$2}" ]; then pass; else fail "expectation of $3: $(cat "$work/err")"; fi
+}
+
+expects 0 '' 'tr 1 0 #= val 0; rd=0 -- flat'
+expects 0 '' 'tr 1 0 #= val 0; h=0 rd=000'
+expects 0 '' 'tr 1 0 # rd=1 is no expectation'
+expects 0 '' 'tr 1 0 #= val 0 -- rd=1'
+expects 0 '' 'level 1 #= ok; rd=0'
+expects 1 '1:18: descriptors read: 0, not 1' 'tr 1 0 #= val 0; rd=1 -- flat reads none'
+expects 1 '1:10: descriptors read: 0, not 20' 'level 1#= rd=20'
+[ "$(cat "$work/out")" = '1 level 1 => ok' ] && pass || fail 'the line whose reads are otherwise is shown'
+expects 1 '2:8: descriptors read: 0, not 3' "$(printf 'level 1\nzero #= rd=3')"
+expects 0 '' "$(cat tests/crackle.trace)"
+sed 's/rd=3 -- over/rd=6 -- over/' tests/crackle.trace >"$work/bad"
+expects 1 "$(awk '/rd=6/ { print NR ":" index($0, "rd=6") }' "$work/bad"): descriptors read: 3, not 6" "$(cat "$work/bad")"
+expects 1 '1:18: not a hexadecimal number (write it without 0x)' 'tr 1 0 #= val 0; rd=0x1'
+expects 1 '1:18: not a hexadecimal number (write it without 0x)' 'tr 1 0 #= val 0; rd='
+expects 1 '1:18: a number of more than 64 bits' 'tr 1 0 #= val 0; rd=10000000000000000'
 
 # from SOURCE ARGUMENTS..: where `a72 walk` says that the core's answer came from, by the counters of the level.
 from() {
@@ -354,7 +413,7 @@ printf 'tr 1 0\0 1\n' >"$work/bad"
 refused 1 ':1:7: a byte that no line holds' run "$work/bad"
 printf '\377\376t\0r\0' >"$work/bad"
 refused 1 ':1:1: a byte that no line holds' run "$work/bad"
-for command in 'run bad' 'audit bad' 'walk bad 0' 'counters bad' 'census bad 0 1'; do
+for command in 'run bad' 'reads bad' 'reads bad 3' 'audit bad' 'walk bad 0' 'counters bad' 'census bad 0 1'; do
     printf 'tr 1 0\nreg TCR 0\n' >"$work/bad"
     # shellcheck disable=SC2086
     refused 1 "$work/bad:2:5: neither a hexadecimal number nor a register" $(echo "$command" | sed "s|bad|$work/bad|")
@@ -367,6 +426,9 @@ refused 1 'No such file' run ''
 # An option of another command, and options that exclude each other.
 refused 2 '--svg is an option of census' audit "$layout" --svg
 refused 2 '--svg is an option of census' run --svg "$layout"
+refused 2 '--svg is an option of census' reads "$layout" --svg
+refused 2 '--short is an option of run' reads "$layout" 3 --short
+refused 2 '--all is an option of audit' reads --all "$layout"
 refused 2 '--short is an option of run' walk "$layout" 0 --short
 refused 2 '--short is an option of run' audit --short "$layout"
 refused 2 '--words is an option of run' counters "$layout" --words
@@ -404,6 +466,12 @@ refused 1 'TRACE: File name too long' counters "$(head -c 5000 /dev/zero | tr '\
 refused 2 'usage:' counters
 refused 2 'counters wants one TRACE' counters "$layout" 1
 refused 2 'usage:' counterses "$layout"
+refused 2 'reads wants a TRACE, then a number of rows if you like' reads
+refused 2 'reads wants no more than a number of rows after TRACE' reads "$layout" 3 4
+for rows in '' -1 +3 3a 0x3 ' 3' 3.0 1_0 4294967296; do refused 1 'N: not a decimal number of 32 bits' reads "$layout" "$rows"; done
+refused 1 'No such file' reads "$work/none"
+refused 1 'Is a directory' reads "$work" 3
+refused 2 'no such command: read (the nearest is reads)' read "$layout"
 refused 1 'not a hexadecimal number' walk recorded/cases.trace here
 refused 1 'LEVEL: 0, 1, 2 or 3' walk recorded/cases.trace 0 read 4
 refused 1 'read, write or fetch' walk recorded/cases.trace 0 execute

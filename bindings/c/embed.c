@@ -26,18 +26,18 @@ static int is_device(a72_core *core, uint64_t number, uint64_t va, uint64_t size
 }
 
 /* A load: of RAM, or of the device that has its physical address. */
-static uint64_t load(a72_core *core, uint64_t va, uint64_t size, uint64_t *value) {
-    uint64_t number = a72_load(core, va, size, value, BASE, ram, LEN);
-    if (is_device(core, number, va, size, *value, PORT + 4)) {
-        *value = 1;
+static uint64_t load(a72_core *core, uint64_t va, uint64_t size, a72_answer *answer) {
+    uint64_t number = a72_load(core, va, size, answer, BASE, ram, LEN);
+    if (is_device(core, number, va, size, answer->value, PORT + 4)) {
+        answer->value = 1;
         return A72_DONE;
     }
     return number;
 }
 
-static uint64_t store(a72_core *core, uint64_t va, uint64_t size, uint64_t value, uint64_t *address) {
-    uint64_t number = a72_store(core, va, size, value, address, BASE, ram, LEN);
-    if (is_device(core, number, va, size, *address, PORT)) {
+static uint64_t store(a72_core *core, uint64_t va, uint64_t size, uint64_t value, a72_answer *answer) {
+    uint64_t number = a72_store(core, va, size, value, answer, BASE, ram, LEN);
+    if (is_device(core, number, va, size, answer->value, PORT)) {
         printf("the port takes '%c'\n", (char)value);
         return A72_DONE;
     }
@@ -64,7 +64,7 @@ static a72_core *start(a72_memory *at) {
 }
 
 int main(void) {
-    uint64_t value = 0, ans = 0;
+    a72_answer answer = {0, 0};
     struct a72_pending pending;
     put(BASE + 0x1000, (BASE + 0x2000) | 3);
     put(BASE + 0x2000, (BASE + 0x3000) | 3);
@@ -73,29 +73,29 @@ int main(void) {
     put(BASE + 0x8000, 0xD4000541); /* svc #42 */
     a72_core *first = start(&memory[0]), *second = start(&memory[1]);
 
-    if (load(first, 0x2004, 4, &value) == A72_DONE && value == 1)
-        store(first, 0x2000, 1, '!', &ans);
+    if (load(first, 0x2004, 4, &answer) == A72_DONE && answer.value == 1)
+        store(first, 0x2000, 1, '!', &answer);
     /* Four bytes for RAM, and four for the port: that is no device's access, but an abort. */
-    if (store(first, 0x1FFC, 8, UINT64_C(0x2A2A2A2A00000000), &ans) == EXTERNAL)
-        printf("over two pages: an abort at 0x%" PRIx64 "\n", ans);
+    if (store(first, 0x1FFC, 8, UINT64_C(0x2A2A2A2A00000000), &answer) == EXTERNAL)
+        printf("over two pages: an abort at 0x%" PRIx64 "\n", answer.value);
 
-    a72_fetch(second, 0x1000, &value, BASE, ram, LEN);
-    printf("fetched 0x%08" PRIx64 "\n", value);
-    if ((value & 0xFFE0001F) == 0xD4000001) { /* svc: the core saves where it returns to, behind it */
-        const uint64_t svc[4] = {A72_EXCEPTION_SVC, value >> 5 & 0xFFFF, 0, 0};
+    a72_fetch(second, 0x1000, &answer, BASE, ram, LEN);
+    printf("fetched 0x%08" PRIx64 "\n", answer.value);
+    if ((answer.value & 0xFFE0001F) == 0xD4000001) { /* svc: the core saves where it returns to, behind it */
+        const uint64_t svc[4] = {A72_EXCEPTION_SVC, answer.value >> 5 & 0xFFFF, 0, 0};
         take(second, "svc", svc);
     }
 
     /* The first core unmaps page 1. The second has it cached until it hears of the TLBI. */
     put(BASE + 0x3008, 0);
     a72_general(first, 0, 1);
-    a72_system(first, A72_TLBI_VAE1IS, 0, &ans, BASE, ram, LEN);
-    printf("before: %s\n", load(second, 0x1000, 4, &value) == A72_DONE ? "still there" : "gone");
+    a72_system(first, A72_TLBI_VAE1IS, 0, &answer, BASE, ram, LEN);
+    printf("before: %s\n", load(second, 0x1000, 4, &answer) == A72_DONE ? "still there" : "gone");
     a72_take_pending(first, &pending);
     a72_receive(second, pending.kind, pending.value);
-    uint64_t number = load(second, 0x1000, 4, &value);
+    uint64_t number = load(second, 0x1000, 4, &answer);
     if (a72_is_fault(number)) {
-        const uint64_t abort[4] = {A72_EXCEPTION_DATA_ABORT, value, 0, a72_status(number)};
+        const uint64_t abort[4] = {A72_EXCEPTION_DATA_ABORT, answer.value, 0, a72_status(number)};
         take(second, "data abort", abort);
     }
     return 0;

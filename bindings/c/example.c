@@ -1,5 +1,5 @@
 /* A core in C: tables that map pages to themselves, a load, a store, a fault that the guest takes, a TLBI, a census of the
- * pages, and what the cache counted at each level. */
+ * pages, what the cache counted at each level, and of each access how many descriptors its walks read. */
 #include "a72.h"
 
 #include <inttypes.h>
@@ -35,30 +35,31 @@ static void map(void) {
     put(LEVEL_3 + 8 * 0xFF, BASE + 0xFF000 + READ_ONLY);
 }
 
-/* What came of a call: its value, or the address of its fault. */
-static void say(const char *what, uint64_t number, uint64_t answer) {
+/* What came of a call: its value, or the address of its fault; and the descriptors that it read. */
+static void say(const char *what, uint64_t number, a72_answer answer) {
     printf("%-26s ", what);
     if (number == A72_DONE)
-        printf("0x%" PRIx64 "\n", answer);
+        printf("0x%" PRIx64, answer.value);
     else if (a72_is_fault(number))
-        printf("fault, status 0x%02x, at 0x%" PRIx64 "\n", a72_status(number), answer);
+        printf("fault, status 0x%02x, at 0x%" PRIx64, a72_status(number), answer.value);
     else
-        printf("refused, number %" PRIu64 "\n", number);
+        printf("refused, number %" PRIu64, number);
+    printf(", descriptors read: %" PRIu64 "\n", answer.reads);
 }
 
 static void load(const char *what, uint64_t va, uint64_t size) {
-    uint64_t value = 0;
-    uint64_t number = a72_load(core, va, size, &value, BASE, ram, LEN);
-    say(what, number, value);
+    a72_answer answer = {0, 0};
+    uint64_t number = a72_load(core, va, size, &answer, BASE, ram, LEN);
+    say(what, number, answer);
 }
 
 /* A store; where it faults the guest takes the data abort. */
 static void store(const char *what, uint64_t va, uint64_t size, uint64_t value) {
-    uint64_t address = va;
-    uint64_t number = a72_store(core, va, size, value, &address, BASE, ram, LEN);
-    say(what, number, address);
+    a72_answer answer = {va, 0};
+    uint64_t number = a72_store(core, va, size, value, &answer, BASE, ram, LEN);
+    say(what, number, answer);
     if (a72_is_fault(number)) {
-        const uint64_t exception[4] = {A72_EXCEPTION_DATA_ABORT, address, 1, a72_status(number)};
+        const uint64_t exception[4] = {A72_EXCEPTION_DATA_ABORT, answer.value, 1, a72_status(number)};
         a72_set_pc(core, 0x1000);
         a72_abort(core, exception);
         printf("  taken: EL%" PRIu64 ", PC 0x%" PRIx64, a72_get_level(core), a72_get_pc(core));
@@ -69,11 +70,12 @@ static void store(const char *what, uint64_t va, uint64_t size, uint64_t value) 
 
 /* The page of `va` moves to the next frame: what was translated stays until a TLBI by its address. */
 static void move(uint64_t va) {
-    uint64_t page = va >> 12, ans = 0;
+    uint64_t page = va >> 12;
+    a72_answer answer;
     put(LEVEL_3 + 8 * (page % 512), (page << 12) + 0x1000 + PAGE);
     load("moved, before the TLBI", va, 4);
     a72_general(core, 1, page);
-    a72_system(core, 0, 8, 7, 1, 1, &ans, BASE, ram, LEN); /* TLBI VAE1, X1 */
+    a72_system(core, A72_TLBI_VAE1, 1, &answer, BASE, ram, LEN); /* TLBI VAE1, X1 */
     load("moved, after it", va, 4);
 }
 
@@ -108,7 +110,7 @@ static void show(uint64_t va) {
 
 int main(void) {
     const uint64_t va = BASE + 0x40FFC;
-    uint64_t pa = 0;
+    a72_answer answer = {0, 0};
     core = a72_init(&memory); /* at EL3, stage 1 off */
     map();
     put(BASE + 0x41FF8, UINT64_C(0xCAFE) << 32);
@@ -117,8 +119,8 @@ int main(void) {
     a72_register(core, A72_SCTLR_EL1, 1); /* stage 1 on */
     a72_level(core, 1);
 
-    uint64_t number = a72_translate(core, va, A72_READ, &pa, BASE, ram, LEN);
-    say("translate", number, pa);
+    uint64_t number = a72_translate(core, va, A72_READ, &answer, BASE, ram, LEN);
+    say("translate", number, answer);
     store("store over two pages", va, 8, UINT64_C(0x1122334455667788));
     load("load over two pages", va, 8);
     load("load of three bytes", va, 3);

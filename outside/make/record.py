@@ -15,9 +15,9 @@ from vec2trace import access_and_entry, at_lines, due, fields
 
 FILES = ("at", "access", "entry", "departures", "perm")
 NUMBER = {name: i for i, name in enumerate(CLASSES, 1)}
-MAGIC = struct.unpack("<Q", b"A72REC02")[0]
+MAGIC = struct.unpack("<Q", b"A72REC03")[0]
 ANSWER, VALUE, LEVEL, PAR, PC = 0x10000, 0x10001, 68, 32, 33
-OPERATION_WORDS = 38        # of an operation's line that is not short
+OPERATION_WORDS = 39        # of an operation's line that is not short
 PLACES = {"par": PAR, "el": LEVEL, "pc": PC}
 PLACES.update({"%s%d" % (name, level): at + level for name, at in (("ELR", 15), ("SPSR", 18), ("ESR", 21), ("FAR", 24)) for level in (1, 2, 3)})
 EXCEPTION = {"und": 0, "svc": 1, "hvc": 2, "smc": 3, "brk": 4, "data": 5, "insn": 6, "pca": 7}

@@ -1,11 +1,12 @@
 //! The core: its state, and every operation as a method.
 use crate::edit::Edit;
 use crate::held::Held;
+use crate::library::Answer;
 use crate::raw;
 use crate::words::of_exception;
 use plain::number::{DONE, FAULT};
 use plain::registers::Key;
-use plain::{Access, Census, Exception, Level, Ram, Status, Stop, SystemOperation, Width, WORDS};
+use plain::{Access, Census, Exception, Level, Ram, Report, Status, Stop, SystemOperation, Width, WORDS};
 use std::fmt::{self, Debug, Formatter};
 
 /// One core: its registers, its cache of translations and their counters, in 41,744 bytes of its own.
@@ -17,9 +18,16 @@ use std::fmt::{self, Debug, Formatter};
 /// fn shared<T: Sync>() {}
 /// shared::<a72::Core>();
 /// ```
-#[derive(Clone)]
 pub struct Core {
     pub(crate) held: Held,
+    report: Report,
+}
+
+/// A clone holds the same, and has done nothing yet.
+impl Clone for Core {
+    fn clone(&self) -> Core {
+        Core::of(self.held.clone())
+    }
 }
 
 /// Two cores are equal where their words are.
@@ -53,19 +61,39 @@ fn stop(number: u64, access: Access, address: u64) -> Stop {
     Stop::from_number(number, access, address).expect("a number that stops an operation")
 }
 
-/// The answer of an operation that gives nothing but success.
-#[inline]
-fn done(number: u64) -> Result<(), Stop> {
-    match number {
-        DONE => Ok(()),
-        n => Err(stop(n, Access::Read, 0)),
-    }
-}
-
 impl Core {
+    fn of(held: Held) -> Core {
+        let report = Report::default();
+        Core { held, report }
+    }
+
     /// A core out of reset: EL3, stage 1 off, the cache empty.
     pub fn new() -> Core {
-        Core { held: Held::new() }
+        Core::of(Held::new())
+    }
+
+    /// What the last operation reports, of those that take the core exclusively: 0 where it was refused, and of those
+    /// that translate nothing. It is no part of what the core holds: neither saved nor compared, and a clone has none.
+    #[inline]
+    pub fn report(&self) -> Report {
+        self.report
+    }
+
+    /// An answer as it comes, its reads kept as the report.
+    #[inline]
+    fn kept(&mut self, (number, Answer { value, reads }): (u64, Answer)) -> (u64, u64) {
+        self.report = Report { reads };
+        (number, value)
+    }
+
+    /// The answer of an operation that gives nothing but success, and reports nothing.
+    #[inline]
+    fn done(&mut self, number: u64) -> Result<(), Stop> {
+        self.report = Report::default();
+        match number {
+            DONE => Ok(()),
+            n => Err(stop(n, Access::Read, 0)),
+        }
     }
 
     /// The core of these words, as [`Self::words`] gave them, or any others: of a word that is larger than its part
@@ -79,6 +107,7 @@ impl Core {
     /// Become the core of these words.
     pub fn restore(&mut self, words: &[u64; WORDS]) {
         self.held.restore(words);
+        self.report = Report::default();
     }
 
     /// All that the core holds, saved as words. [`crate::place`] has the layout.
@@ -111,7 +140,8 @@ impl Core {
     /// its tag where TBI drops that, and from 2^44 on a fault of status 0x00.
     #[inline]
     pub fn translate(&mut self, ram: &Ram, va: u64, access: Access) -> Result<u64, Stop> {
-        match raw::translate(&mut self.held, va, access as u64, ram.base, ram.bytes) {
+        let answer = raw::translate(&mut self.held, va, access as u64, ram.base, ram.bytes);
+        match self.kept(answer) {
             (DONE, pa) => Ok(pa),
             (n, _) => Err(stop(n, access, va)),
         }
@@ -120,7 +150,8 @@ impl Core {
     /// Where a data read of `va` would go; `None` where it would fault.
     #[inline]
     pub fn data_pa(&mut self, ram: &Ram, va: u64) -> Result<Option<u64>, Stop> {
-        match raw::data_pa(&mut self.held, va, ram.base, ram.bytes) {
+        let answer = raw::data_pa(&mut self.held, va, ram.base, ram.bytes);
+        match self.kept(answer) {
             (DONE, pa) => Ok(Some(pa)),
             (FAULT.., _) => Ok(None),
             (n, _) => Err(stop(n, Access::Read, va)),
@@ -140,7 +171,8 @@ impl Core {
     /// Where an instruction fetch from `va` would go; `None` where it would fault.
     #[inline]
     pub fn fetch_pa(&mut self, ram: &Ram, va: u64) -> Result<Option<u64>, Stop> {
-        match raw::fetch_pa(&mut self.held, va, ram.base, ram.bytes) {
+        let answer = raw::fetch_pa(&mut self.held, va, ram.base, ram.bytes);
+        match self.kept(answer) {
             (DONE, pa) => Ok(Some(pa)),
             (FAULT.., _) => Ok(None),
             (n, _) => Err(stop(n, Access::Fetch, va)),
@@ -157,7 +189,8 @@ impl Core {
     /// [`Self::load`] of a size in bytes, which is refused where it is none of 1, 2, 4 and 8.
     #[inline]
     pub fn load_bytes(&mut self, ram: &Ram, va: u64, size: u64) -> Result<u64, Stop> {
-        match raw::load(&mut self.held, va, size, ram.base, ram.bytes) {
+        let answer = raw::load(&mut self.held, va, size, ram.base, ram.bytes);
+        match self.kept(answer) {
             (DONE, v) => Ok(v),
             (n, address) => Err(stop(n, Access::Read, address)),
         }
@@ -173,7 +206,8 @@ impl Core {
     /// [`Self::store`] of a size in bytes, which is refused where it is none of 1, 2, 4 and 8.
     #[inline]
     pub fn store_bytes(&mut self, ram: &mut Ram, va: u64, size: u64, value: u64) -> Result<(), Stop> {
-        match raw::store(&mut self.held, va, size, value, ram.base, ram.bytes) {
+        let answer = raw::store(&mut self.held, va, size, value, ram.base, ram.bytes);
+        match self.kept(answer) {
             (DONE, _) => Ok(()),
             (n, address) => Err(stop(n, Access::Write, address)),
         }
@@ -182,7 +216,8 @@ impl Core {
     /// The instruction at `va`.
     #[inline]
     pub fn fetch(&mut self, ram: &Ram, va: u64) -> Result<u32, Stop> {
-        match raw::fetch(&mut self.held, va, ram.base, ram.bytes) {
+        let answer = raw::fetch(&mut self.held, va, ram.base, ram.bytes);
+        match self.kept(answer) {
             (DONE, instruction) => Ok(instruction as u32),
             (n, _) => Err(stop(n, Access::Fetch, va)),
         }
@@ -190,21 +225,15 @@ impl Core {
 
     /// Carry out a SYS instruction: TLBI, AT, DC ZVA; other cache maintenance does nothing.
     pub fn system(&mut self, ram: &mut Ram, operation: SystemOperation) -> Result<(), Stop> {
-        match raw::system(
-            &mut self.held,
-            {
-                let SystemOperation {
-                    op1,
-                    crn,
-                    crm,
-                    op2,
-                    rt,
-                } = operation;
-                [op1, crn, crm, op2, rt]
-            },
-            ram.base,
-            ram.bytes,
-        ) {
+        let SystemOperation {
+            op1,
+            crn,
+            crm,
+            op2,
+            rt,
+        } = operation;
+        let answer = raw::system(&mut self.held, [op1, crn, crm, op2, rt], ram.base, ram.bytes);
+        match self.kept(answer) {
             (DONE, _) => Ok(()),
             (n, address) => Err(stop(n, Access::Write, address)),
         }
@@ -223,27 +252,32 @@ impl Core {
     /// Write a system register by its key ([`crate::registers`]): the register's mask applies, and the cache forgets
     /// what the write unsettles.
     pub fn write_register(&mut self, key: impl Into<Key>, value: u64) -> Result<(), Stop> {
-        done(raw::register(&mut self.held, key.into().into(), value))
+        let number = raw::register(&mut self.held, key.into().into(), value);
+        self.done(number)
     }
 
     /// Set the present exception level.
     pub fn set_level(&mut self, level: impl Into<Level>) -> Result<(), Stop> {
-        done(raw::level(&mut self.held, level.into().into()))
+        let number = raw::level(&mut self.held, level.into().into());
+        self.done(number)
     }
 
     /// Mark the accesses that follow as unprivileged (LDTR and STTR), or not.
     pub fn set_unprivileged(&mut self, on: bool) -> Result<(), Stop> {
-        done(raw::mark(&mut self.held, on.into()))
+        let number = raw::mark(&mut self.held, on.into());
+        self.done(number)
     }
 
     /// Set a general register, X0 to X30; 31 is the zero register and takes nothing.
     pub fn set_general(&mut self, number: u64, value: u64) -> Result<(), Stop> {
-        done(raw::general(&mut self.held, number, value))
+        let number = raw::general(&mut self.held, number, value);
+        self.done(number)
     }
 
     /// Take an exception: it is routed by SCR_EL3 and HCR_EL2; ELR, SPSR, ESR and FAR are written, the level and the
     /// PC are those of the vector.
     pub fn take(&mut self, exception: &Exception) -> Result<(), Stop> {
-        done(raw::abort(&mut self.held, &of_exception(exception)))
+        let number = raw::abort(&mut self.held, &of_exception(exception));
+        self.done(number)
     }
 }

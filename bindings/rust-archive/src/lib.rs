@@ -32,5 +32,5 @@ pub use crate::edit::Edit;
 pub use plain::{count, number, place, registers};
 pub use plain::{
     Access, Broadcast, Census, Check, Counters, Entry, Exception, Fault, FetchHint, Flags, Hint, Level,
-    LevelCounters, Ram, Rights, Status, Stop, SystemOperation, Width, MOST_PAGES, WORDS,
+    LevelCounters, Ram, Report, Rights, Status, Stop, SystemOperation, Width, MOST_PAGES, WORDS,
 };

@@ -9,6 +9,14 @@ pub struct Handle {
     pub at: *mut c_void,
 }
 
+/// What a call says beside its number.
+#[repr(C)]
+#[derive(Clone, Copy, Debug, Default, PartialEq, Eq)]
+pub struct Answer {
+    pub value: u64,
+    pub reads: u64,
+}
+
 extern "C" {
     pub fn a72_init_at(at: *mut c_void);
     pub fn a72_save(core: *mut Handle, words: *mut State);
@@ -18,7 +26,7 @@ extern "C" {
         core: *mut Handle,
         va: u64,
         kind: u64,
-        ans: *mut u64,
+        answer: *mut Answer,
         base: u64,
         ram: *const u8,
         len: usize,
@@ -26,7 +34,7 @@ extern "C" {
     pub fn a72_data_pa(
         core: *mut Handle,
         va: u64,
-        ans: *mut u64,
+        answer: *mut Answer,
         base: u64,
         ram: *const u8,
         len: usize,
@@ -34,7 +42,7 @@ extern "C" {
     pub fn a72_fetch_pa(
         core: *mut Handle,
         va: u64,
-        ans: *mut u64,
+        answer: *mut Answer,
         base: u64,
         ram: *const u8,
         len: usize,
@@ -43,7 +51,7 @@ extern "C" {
         core: *mut Handle,
         va: u64,
         size: u64,
-        ans: *mut u64,
+        answer: *mut Answer,
         base: u64,
         ram: *const u8,
         len: usize,
@@ -53,13 +61,19 @@ extern "C" {
         va: u64,
         size: u64,
         value: u64,
-        ans: *mut u64,
+        answer: *mut Answer,
         base: u64,
         ram: *mut u8,
         len: usize,
     ) -> u64;
-    pub fn a72_fetch(core: *mut Handle, va: u64, ans: *mut u64, base: u64, ram: *const u8, len: usize)
-        -> u64;
+    pub fn a72_fetch(
+        core: *mut Handle,
+        va: u64,
+        answer: *mut Answer,
+        base: u64,
+        ram: *const u8,
+        len: usize,
+    ) -> u64;
     pub fn a72_system(
         core: *mut Handle,
         op1: u64,
@@ -67,7 +81,7 @@ extern "C" {
         crm: u64,
         op2: u64,
         rt: u64,
-        ans: *mut u64,
+        answer: *mut Answer,
         base: u64,
         ram: *mut u8,
         len: usize,
@@ -90,7 +104,7 @@ extern "C" {
         registers: *const [u64; 6],
         regime: u64,
         va: u64,
-        leaf: *mut [u64; 5],
+        leaf: *mut [u64; 6],
         base: u64,
         ram: *const u8,
         len: usize,
@@ -101,7 +115,7 @@ extern "C" {
         base: u64,
         ram: *mut u8,
         len: usize,
-        ans: *mut [u64; 4],
+        answer: *mut [u64; 5],
     ) -> u64;
     pub fn a72_get_register(core: *mut Handle, key: u64, value: *mut u64) -> u64;
     pub fn a72_get_level(core: *mut Handle) -> u64;

@@ -1,75 +1,94 @@
-//! The library's functions, called. Each takes a core, and a window of RAM where it needs one, and gives a number; the
-//! second number of a pair is what then stands in the answer's word.
+//! The library's functions, called. Each takes a core, and a window of RAM where it needs one, and gives a number; where
+//! it is handed an answer that stands beside the number, zeros where nothing of it is written.
 #![allow(unsafe_code)]
 
 use crate::held::Held;
-use crate::library;
+use crate::library::{self, Answer};
 use plain::count::{Counts, COUNTS};
 use plain::number::DONE;
 
 // Why each call below is sound: the library reads and writes the core's memory, the bytes of `ram` up to the length
-// beside it, and the one word `ans` or the array it answers in, and keeps no pointer. The core has its memory for
+// beside it, and the answer or the array it answers in, and keeps no pointer. The core has its memory for
 // itself and is not `Sync`, so that no other call uses it; the others come from references that live through the
 // call, and what is written is borrowed exclusively or local, so nothing overlaps. The library asks nothing of the
 // values: whatever they are, it stays inside and ends, which is proved.
 
 #[inline]
-pub fn translate(core: &mut Held, va: u64, kind: u64, base: u64, ram: &[u8]) -> (u64, u64) {
-    let mut ans = 0;
-    // Sound: a core, a slice with its own length, and a local word.
-    let n =
-        unsafe { library::a72_translate(core.handle(), va, kind, &mut ans, base, ram.as_ptr(), ram.len()) };
-    (n, ans)
+pub fn translate(core: &mut Held, va: u64, kind: u64, base: u64, ram: &[u8]) -> (u64, Answer) {
+    let mut answer = Answer::default();
+    // Sound: a core, a slice with its own length, and a local answer.
+    let n = unsafe {
+        library::a72_translate(
+            core.handle(),
+            va,
+            kind,
+            &mut answer,
+            base,
+            ram.as_ptr(),
+            ram.len(),
+        )
+    };
+    (n, answer)
 }
 
 #[inline]
-pub fn data_pa(core: &mut Held, va: u64, base: u64, ram: &[u8]) -> (u64, u64) {
-    let mut ans = 0;
-    // Sound: a core, a slice with its own length, and a local word.
-    let n = unsafe { library::a72_data_pa(core.handle(), va, &mut ans, base, ram.as_ptr(), ram.len()) };
-    (n, ans)
+pub fn data_pa(core: &mut Held, va: u64, base: u64, ram: &[u8]) -> (u64, Answer) {
+    let mut answer = Answer::default();
+    // Sound: a core, a slice with its own length, and a local answer.
+    let n = unsafe { library::a72_data_pa(core.handle(), va, &mut answer, base, ram.as_ptr(), ram.len()) };
+    (n, answer)
 }
 
 #[inline]
-pub fn fetch_pa(core: &mut Held, va: u64, base: u64, ram: &[u8]) -> (u64, u64) {
-    let mut ans = 0;
-    // Sound: a core, a slice with its own length, and a local word.
-    let n = unsafe { library::a72_fetch_pa(core.handle(), va, &mut ans, base, ram.as_ptr(), ram.len()) };
-    (n, ans)
+pub fn fetch_pa(core: &mut Held, va: u64, base: u64, ram: &[u8]) -> (u64, Answer) {
+    let mut answer = Answer::default();
+    // Sound: a core, a slice with its own length, and a local answer.
+    let n = unsafe { library::a72_fetch_pa(core.handle(), va, &mut answer, base, ram.as_ptr(), ram.len()) };
+    (n, answer)
 }
 
 #[inline]
-pub fn load(core: &mut Held, va: u64, size: u64, base: u64, ram: &[u8]) -> (u64, u64) {
-    let mut ans = 0;
-    // Sound: a core, a slice with its own length, and a local word.
-    let n = unsafe { library::a72_load(core.handle(), va, size, &mut ans, base, ram.as_ptr(), ram.len()) };
-    (n, ans)
+pub fn load(core: &mut Held, va: u64, size: u64, base: u64, ram: &[u8]) -> (u64, Answer) {
+    let mut answer = Answer::default();
+    // Sound: a core, a slice with its own length, and a local answer.
+    let n = unsafe {
+        library::a72_load(
+            core.handle(),
+            va,
+            size,
+            &mut answer,
+            base,
+            ram.as_ptr(),
+            ram.len(),
+        )
+    };
+    (n, answer)
 }
 
 #[inline]
-pub fn store(core: &mut Held, va: u64, size: u64, value: u64, base: u64, ram: &mut [u8]) -> (u64, u64) {
-    let (mut ans, at, len) = (0, ram.as_mut_ptr(), ram.len());
-    // Sound: a core, a slice borrowed exclusively with its own length, and a local word.
-    let n = unsafe { library::a72_store(core.handle(), va, size, value, &mut ans, base, at, len) };
-    (n, ans)
+pub fn store(core: &mut Held, va: u64, size: u64, value: u64, base: u64, ram: &mut [u8]) -> (u64, Answer) {
+    let (mut answer, at, len) = (Answer::default(), ram.as_mut_ptr(), ram.len());
+    // Sound: a core, a slice borrowed exclusively with its own length, and a local answer.
+    let n = unsafe { library::a72_store(core.handle(), va, size, value, &mut answer, base, at, len) };
+    (n, answer)
 }
 
 #[inline]
-pub fn fetch(core: &mut Held, va: u64, base: u64, ram: &[u8]) -> (u64, u64) {
-    let mut ans = 0;
-    // Sound: a core, a slice with its own length, and a local word.
-    let n = unsafe { library::a72_fetch(core.handle(), va, &mut ans, base, ram.as_ptr(), ram.len()) };
-    (n, ans)
+pub fn fetch(core: &mut Held, va: u64, base: u64, ram: &[u8]) -> (u64, Answer) {
+    let mut answer = Answer::default();
+    // Sound: a core, a slice with its own length, and a local answer.
+    let n = unsafe { library::a72_fetch(core.handle(), va, &mut answer, base, ram.as_ptr(), ram.len()) };
+    (n, answer)
 }
 
 /// `fields`: op1, CRn, CRm, op2, register.
 #[inline]
-pub fn system(core: &mut Held, fields: [u64; 5], base: u64, ram: &mut [u8]) -> (u64, u64) {
+pub fn system(core: &mut Held, fields: [u64; 5], base: u64, ram: &mut [u8]) -> (u64, Answer) {
     let [op1, crn, crm, op2, rt] = fields;
-    let (mut ans, at, len) = (0, ram.as_mut_ptr(), ram.len());
-    // Sound: a core, a slice borrowed exclusively with its own length, and a local word.
-    let n = unsafe { library::a72_system(core.handle(), op1, crn, crm, op2, rt, &mut ans, base, at, len) };
-    (n, ans)
+    let (mut answer, at, len) = (Answer::default(), ram.as_mut_ptr(), ram.len());
+    // Sound: a core, a slice borrowed exclusively with its own length, and a local answer.
+    let n = unsafe { library::a72_system(core.handle(), op1, crn, crm, op2, rt, &mut answer, base, at, len) };
+    (n, answer)
 }
 
 pub fn census(core: &Held, first: u64, pages: u64, base: u64, ram: &[u8]) -> (u64, Counts) {
@@ -249,7 +268,10 @@ mod tests {
     fn what_names_nothing_is_refused() {
         let mut core = Held::new();
         let before = core.save();
-        assert_eq!(translate(&mut core, 0, 3, 0, &[]), (NAMES_NOTHING, 0));
+        assert_eq!(
+            translate(&mut core, 0, 3, 0, &[]),
+            (NAMES_NOTHING, Answer::default())
+        );
         assert_eq!(mark(&mut core, 2), NAMES_NOTHING);
         assert_eq!(receive(&mut core, 0, 0), NAMES_NOTHING);
         assert_eq!(receive(&mut core, 3, 0x1_0000), NAMES_NOTHING);

@@ -1,7 +1,15 @@
-//! What stops an operation.
+//! What an operation reports, and what stops it.
 use crate::number::{UNDEFINED, UNIMPLEMENTED, status};
 use crate::operation::{Access, Exception, Status};
 use core::fmt::{self, Display, Formatter};
+
+/// What an operation did for its answer ([`crate::Core::report`]).
+#[derive(Clone, Copy, Debug, Default, PartialEq, Eq)]
+pub struct Report {
+    /// The descriptors that its table walks read, one that lies outside RAM too: at most four for each walk, and none
+    /// where a hint or an entry of the cache answered, stage 1 is off, or the address is in no table's range.
+    pub reads: u64,
+}
 
 /// A check that a call missed. The call changed nothing.
 #[derive(Clone, Copy, Debug, PartialEq, Eq)]

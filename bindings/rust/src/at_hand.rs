@@ -17,7 +17,10 @@ impl Core {
         };
         let privilege = self.core.privilege;
         match self.core.tlb.by_hint(privilege, va, kind) {
-            Some(pa) if privilege.level <= 3 => Some(Ok(pa)),
+            Some(pa) if privilege.level <= 3 => {
+                self.answer.reads = 0;
+                Some(Ok(pa))
+            }
             _ => self.past_hint(va, kind),
         }
     }
@@ -28,7 +31,10 @@ impl Core {
     pub fn fetch_at_hand(&mut self, va: u64) -> Option<Result<u64, Status>> {
         let level = self.core.privilege.level;
         let answer = match self.core.tlb.by_fetch_hint(level, va) {
-            Some(pa) if level <= 3 => Some(Ok(pa)),
+            Some(pa) if level <= 3 => {
+                self.answer.reads = 0;
+                Some(Ok(pa))
+            }
             _ => self.past_hint(va, Kind::Fetch),
         };
         if let Some(Ok(pa)) = answer {
@@ -43,6 +49,7 @@ impl Core {
             return None;
         }
         let answer = self.core.at_hand(0, &[], va, kind)?;
+        self.answer.reads = 0;
         Some(answer.map_err(|fault| Status(fault.fsc)))
     }
 }
@@ -89,6 +96,7 @@ mod tests {
                 Some(answer) => assert_eq!(answer.ok(), other.fetch_pa(&ram, va).unwrap()),
                 None => assert_eq!(core.fetch_pa(&ram, va), other.fetch_pa(&ram, va)),
             }
+            assert_eq!(core.report(), other.report());
             for core in [&mut core, &mut other] {
                 match step {
                     50 => core.write_register(registers::SCTLR_EL1, 1).unwrap(),

@@ -1,12 +1,13 @@
 //! The core: its state, and every operation as a method.
-use crate::answer::Stop;
+use crate::answer::{Report, Stop};
 use crate::census::Census;
 use crate::number::{DONE, FAULT};
 use crate::operation::{Access, Exception, Level, Width};
 use crate::place::State;
 use crate::ram::Ram;
 use crate::registers::Key;
-use crate::stage1::call_words::reply;
+use crate::stage1::call_words::reply::Report as Answer;
+use crate::stage1::cpu::call::Reply;
 use crate::stage1::quick::{fetch, hint, load, settings, store, sys, translation};
 use crate::stage1::{cpu, saved};
 use crate::system_operation::SystemOperation;
@@ -14,10 +15,27 @@ use core::fmt::{self, Debug, Formatter};
 
 /// One core: its registers, its cache of translations and their counters, some 41 KB. Nothing of it can be written
 /// past a method, so that no write skips what the cache has to forget.
-#[derive(Clone, PartialEq, Eq)]
 pub struct Core {
     pub(crate) core: cpu::Core,
+    /// What the last operation gave, which is no part of what the core holds. Its value may be of one before.
+    pub(crate) answer: Answer,
 }
+
+/// A clone holds the same, and has done nothing yet.
+impl Clone for Core {
+    fn clone(&self) -> Core {
+        Core::of(self.core.clone())
+    }
+}
+
+/// Two cores are equal where they hold the same.
+impl PartialEq for Core {
+    fn eq(&self, other: &Core) -> bool {
+        self.core == other.core
+    }
+}
+
+impl Eq for Core {}
 
 impl Default for Core {
     fn default() -> Core {
@@ -38,20 +56,41 @@ impl Debug for Core {
     }
 }
 
-/// The answer of an operation that gives nothing but success.
-#[inline]
-fn done(number: u64) -> Result<(), Stop> {
-    match number {
-        DONE => Ok(()),
-        n => Err(Stop::of(n, Access::Read, 0)),
-    }
-}
-
 impl Core {
+    fn of(core: cpu::Core) -> Core {
+        let answer = Answer { value: 0, reads: 0 };
+        Core { core, answer }
+    }
+
     /// A core out of reset: EL3, stage 1 off, the cache empty.
     pub fn new() -> Core {
-        Core {
-            core: cpu::Core::new(),
+        Core::of(cpu::Core::new())
+    }
+
+    /// What the last operation did, of those that take the core exclusively: it read no descriptor where it was refused,
+    /// or translates nothing. It is no part of what the core holds: neither saved nor compared, and a clone has none.
+    #[inline]
+    pub fn report(&self) -> Report {
+        let reads = self.answer.reads;
+        Report { reads }
+    }
+
+    /// An operation is stopped. Of one that is refused no answer was written, and it read nothing.
+    #[cold]
+    fn stop(&mut self, number: u64, access: Access, address: u64) -> Stop {
+        if number < FAULT {
+            self.answer.reads = 0;
+        }
+        Stop::of(number, access, address)
+    }
+
+    /// The end of an operation that gives nothing but success, and translates nothing.
+    #[inline]
+    fn done(&mut self, number: u64) -> Result<(), Stop> {
+        self.answer.reads = 0;
+        match number {
+            DONE => Ok(()),
+            n => Err(Stop::of(n, Access::Read, 0)),
         }
     }
 
@@ -59,6 +98,7 @@ impl Core {
     /// part some bits count.
     pub fn restore(&mut self, words: &State) {
         saved::restore::restore(&mut self.core, words);
+        self.answer.reads = 0;
     }
 
     /// All that the core holds, saved as words. [`crate::place`] has the layout.
@@ -76,7 +116,10 @@ impl Core {
     #[inline(always)]
     pub fn translate(&mut self, ram: &Ram, va: u64, access: Access) -> Result<u64, Stop> {
         match hint::served(&self.core, va, access as u64, ram.base, ram.bytes.len() as u64) {
-            Some(pa) => Ok(pa),
+            Some(pa) => {
+                self.answer.reads = 0;
+                Ok(pa)
+            }
             None => self.translate_past_hint(ram, va, access),
         }
     }
@@ -84,32 +127,30 @@ impl Core {
     // What `quick::translation::translate` does where no hint serves; out of line, so that a hint pays nothing for it.
     #[inline(never)]
     fn translate_past_hint(&mut self, ram: &Ram, va: u64, access: Access) -> Result<u64, Stop> {
-        let mut pa = 0;
-        match translation::kind_asked(&mut self.core, va, access as u64, &mut pa, ram.base, ram.bytes) {
-            DONE => Ok(pa),
-            n => Err(Stop::of(n, access, va)),
+        let answer = &mut self.answer;
+        match translation::kind_asked(&mut self.core, va, access as u64, answer, ram.base, ram.bytes) {
+            DONE => Ok(answer.value),
+            n => Err(self.stop(n, access, va)),
         }
     }
 
     /// Where a data read of `va` would go; `None` where it would fault.
     #[inline(always)]
     pub fn data_pa(&mut self, ram: &Ram, va: u64) -> Result<Option<u64>, Stop> {
-        let mut pa = 0;
-        match translation::data_pa(&mut self.core, va, &mut pa, ram.base, ram.bytes) {
-            DONE => Ok(Some(pa)),
+        match translation::data_pa(&mut self.core, va, &mut self.answer, ram.base, ram.bytes) {
+            DONE => Ok(Some(self.answer.value)),
             FAULT.. => Ok(None),
-            n => Err(Stop::of(n, Access::Read, va)),
+            n => Err(self.stop(n, Access::Read, va)),
         }
     }
 
     /// Where an instruction fetch from `va` would go; `None` where it would fault.
     #[inline(always)]
     pub fn fetch_pa(&mut self, ram: &Ram, va: u64) -> Result<Option<u64>, Stop> {
-        let mut pa = 0;
-        match fetch::fetch_pa(&mut self.core, va, &mut pa, ram.base, ram.bytes) {
-            DONE => Ok(Some(pa)),
+        match fetch::fetch_pa(&mut self.core, va, &mut self.answer, ram.base, ram.bytes) {
+            DONE => Ok(Some(self.answer.value)),
             FAULT.. => Ok(None),
-            n => Err(Stop::of(n, Access::Fetch, va)),
+            n => Err(self.stop(n, Access::Fetch, va)),
         }
     }
 
@@ -123,10 +164,9 @@ impl Core {
     /// [`Self::load`] of a size in bytes, which is refused where it is none of 1, 2, 4 and 8.
     #[inline]
     pub fn load_bytes(&mut self, ram: &Ram, va: u64, size: u64) -> Result<u64, Stop> {
-        let mut answer = 0;
-        match load::load(&mut self.core, va, size, &mut answer, ram.base, ram.bytes) {
-            DONE => Ok(answer),
-            n => Err(Stop::of(n, Access::Read, answer)),
+        match load::load(&mut self.core, va, size, &mut self.answer, ram.base, ram.bytes) {
+            DONE => Ok(self.answer.value),
+            n => Err(self.stop(n, Access::Read, self.answer.value)),
         }
     }
 
@@ -140,20 +180,18 @@ impl Core {
     /// [`Self::store`] of a size in bytes, which is refused where it is none of 1, 2, 4 and 8.
     #[inline]
     pub fn store_bytes(&mut self, ram: &mut Ram, va: u64, size: u64, value: u64) -> Result<(), Stop> {
-        let mut answer = 0;
-        match store::store(&mut self.core, va, size, value, &mut answer, ram.base, ram.bytes) {
+        match store::store(&mut self.core, va, size, value, &mut self.answer, ram.base, ram.bytes) {
             DONE => Ok(()),
-            n => Err(Stop::of(n, Access::Write, answer)),
+            n => Err(self.stop(n, Access::Write, self.answer.value)),
         }
     }
 
     /// The instruction at `va`.
     #[inline(always)]
     pub fn fetch(&mut self, ram: &Ram, va: u64) -> Result<u32, Stop> {
-        let mut instruction = 0;
-        match fetch::fetch(&mut self.core, va, &mut instruction, ram.base, ram.bytes) {
-            DONE => Ok(instruction as u32),
-            n => Err(Stop::of(n, Access::Fetch, va)),
+        match fetch::fetch(&mut self.core, va, &mut self.answer, ram.base, ram.bytes) {
+            DONE => Ok(self.answer.value as u32),
+            n => Err(self.stop(n, Access::Fetch, va)),
         }
     }
 
@@ -166,7 +204,6 @@ impl Core {
             op2,
             rt,
         } = operation;
-        let mut address = 0;
         match sys::system(
             &mut self.core,
             op1,
@@ -174,12 +211,12 @@ impl Core {
             crm,
             op2,
             rt,
-            &mut address,
+            &mut self.answer,
             ram.base,
             ram.bytes,
         ) {
             DONE => Ok(()),
-            n => Err(Stop::of(n, Access::Write, address)),
+            n => Err(self.stop(n, Access::Write, self.answer.value)),
         }
     }
 
@@ -188,39 +225,44 @@ impl Core {
     /// refused, and a range that passes 2^64; it may end there.
     pub fn census(&self, ram: &Ram, first: u64, pages: u64) -> Result<Census, Stop> {
         let found = self.core.census(ram.base, ram.bytes, first, pages);
-        match reply::number(found.reply) {
-            DONE => Ok(Census::of(&found.counts)),
-            n => Err(Stop::of(n, Access::Read, first)),
+        match found.reply {
+            Reply::Refused(n) => Err(Stop::of(n.into(), Access::Read, first)),
+            _ => Ok(Census::of(&found.counts)),
         }
     }
 
     /// Write a system register by its key ([`crate::registers`]): the register's mask applies, and the cache forgets
     /// what the write unsettles.
     pub fn write_register(&mut self, key: impl Into<Key>, value: u64) -> Result<(), Stop> {
-        done(settings::register(&mut self.core, key.into().into(), value))
+        let number = settings::register(&mut self.core, key.into().into(), value);
+        self.done(number)
     }
 
     /// Set the present exception level.
     #[inline(always)]
     pub fn set_level(&mut self, level: impl Into<Level>) -> Result<(), Stop> {
-        done(settings::level(&mut self.core, level.into().into()))
+        let number = settings::level(&mut self.core, level.into().into());
+        self.done(number)
     }
 
     /// Mark the accesses that follow as unprivileged (LDTR and STTR), or not.
     #[inline(always)]
     pub fn set_unprivileged(&mut self, on: bool) -> Result<(), Stop> {
-        done(settings::mark(&mut self.core, on.into()))
+        let number = settings::mark(&mut self.core, on.into());
+        self.done(number)
     }
 
     /// Set a general register, X0 to X30; 31 is the zero register and takes nothing.
     #[inline(always)]
     pub fn set_general(&mut self, number: u64, value: u64) -> Result<(), Stop> {
-        done(settings::general(&mut self.core, number, value))
+        let number = settings::general(&mut self.core, number, value);
+        self.done(number)
     }
 
     /// Take an exception: it is routed by SCR_EL3 and HCR_EL2; ELR, SPSR, ESR and FAR are written, the level and the
     /// PC are those of the vector.
     pub fn take(&mut self, exception: &Exception) -> Result<(), Stop> {
-        done(settings::abort(&mut self.core, exception.known()))
+        let number = settings::abort(&mut self.core, exception.known());
+        self.done(number)
     }
 }

@@ -36,6 +36,7 @@
 //! core.set_level(1)?;
 //!
 //! assert_eq!(core.translate(&ram, 0x1234, Access::Write)?, 0x4000_8234);
+//! assert_eq!(core.report().reads, 3); // the descriptors of a walk of three levels
 //! core.store(&mut ram, 0x1FFC, Width::Word, 0xDEAD_BEEF)?;
 //! assert_eq!(ram.read_u64(0x4000_8FF8), Some(0xDEAD_BEEF_0000_0000));
 //!
@@ -93,7 +94,7 @@ mod view;
 mod walk;
 
 pub use crate::core::Core;
-pub use answer::{Check, Fault, Stop};
+pub use answer::{Check, Fault, Report, Stop};
 #[cfg(feature = "alloc")]
 pub use boxed::Edit;
 pub use census::{Census, Rights};

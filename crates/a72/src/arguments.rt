@@ -59,6 +59,21 @@ pub fn level(word: Option<&&str>) -> Result<Option<u64>, Stop> {
     }
 }
 
+// Rows of a table where a call does not say how many.
+const ROWS: usize = 20;
+
+/// The number of rows that an argument says, in decimal.
+pub fn rows(word: Option<&&str>) -> Result<usize, Stop> {
+    let Some(word) = word else {
+        return Ok(ROWS);
+    };
+    let digits = word.bytes().all(|b| b.is_ascii_digit());
+    match word.parse::<u32>() {
+        Ok(rows) if digits => Ok(rows as usize),
+        _ => Err(Stop::Argument(Wrong::Rows)),
+    }
+}
+
 /// The words after the program's name.
 pub fn words<R: Env + AllocGlobal>(rt: &R) -> Result<Vec<String>, Stop> {
     match env::args(rt) {

@@ -1,17 +1,18 @@
 //! The commands.
 use crate::arguments::Arguments;
 use crate::stop::{Stop, Wrong};
-use crate::{arguments, usage};
+use crate::{arguments, ranges, usage};
 use census_report::report::{Census, Form};
 use core_calls::settings;
-use counters_report::report;
+use counters_report::report as counters;
+use reads_report::report as pages;
 use std::alloc::Global;
 use std::io::{Input, Write};
 use std::rt::Files;
 use tlb::access::Kind;
 use trace_core::memory;
 use trace_file::auditor::Auditor;
-use trace_file::carry::{Audited, Shown, Silent};
+use trace_file::carry::{Audited, Counted, Shown, Silent};
 use trace_file::{cache, run, show};
 use walk_report::explain;
 
@@ -81,7 +82,7 @@ fn audit<R: Files + Input + AllocGlobal, W: Write>(
 }
 
 // `a72 counters`.
-fn counters<R: Files + Input + AllocGlobal, W: Write>(
+fn count<R: Files + Input + AllocGlobal, W: Write>(
     rt: &R,
     out: &mut W,
     arguments: &Arguments<'_>,
@@ -90,8 +91,29 @@ fn counters<R: Files + Input + AllocGlobal, W: Write>(
     let [path] = words else {
         return Err(Stop::Usage("counters wants one TRACE"));
     };
-    let machine = run::run(rt, arguments.trace(path)?, &mut Silent)?;
-    report::show(out, &machine.core.tlb)?;
+    let mut counted = Counted::new(rt.alloc());
+    let machine = run::run(rt, arguments.trace(path)?, &mut counted)?;
+    counters::show(out, &machine.core.tlb, &counted.pages.by_level())?;
+    Ok(())
+}
+
+// `a72 reads`.
+fn reads<R: Files + Input + AllocGlobal, W: Write>(
+    rt: &R,
+    out: &mut W,
+    arguments: &Arguments<'_>,
+    words: &[&str],
+) -> Result<(), Stop> {
+    let [path, rest @ ..] = words else {
+        return Err(Stop::Usage("reads wants a TRACE, then a number of rows if you like"));
+    };
+    if 1 < rest.len() {
+        return Err(Stop::Usage("reads wants no more than a number of rows after TRACE"));
+    }
+    let rows = arguments::rows(rest.first())?;
+    let mut counted = Counted::new(rt.alloc());
+    run::run(rt, arguments.trace(path)?, &mut counted)?;
+    pages::show(out, &mut counted.pages, rows)?;
     Ok(())
 }
 
@@ -208,9 +230,11 @@ pub fn carry_out<R: Files + Input + AllocGlobal, W: Write>(
     match *name {
         "run" => run(rt, out, arguments, rest),
         "audit" => audit(rt, out, arguments, rest),
-        "counters" => counters(rt, out, arguments, rest),
+        "counters" => count(rt, out, arguments, rest),
+        "reads" => reads(rt, out, arguments, rest),
         "walk" => walk(rt, out, arguments, rest),
         "census" => census(rt, out, arguments, rest, terminal),
+        "ranges" => ranges::carry_out(rt, out, arguments, rest),
         "chord" => chord(rt.alloc(), out, rest),
         "help" => {
             usage::help(out)?;

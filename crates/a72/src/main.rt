@@ -1,8 +1,9 @@
 #![tactic(auto)]
-//! The tool: traces on the proved core, an audit of its cache, its counters by level, one translation step by step, a
+//! The tool: traces on the proved core, the pages that read most, an audit of its cache, its counters by level, one translation step by step, a
 //! census of pages, and the chord.
 mod arguments;
 mod commands;
+mod ranges;
 mod stop;
 mod usage;
 

@@ -20,6 +20,8 @@ pub enum Wrong {
     Number(&'static str),
     #[error("LEVEL: 0, 1, 2 or 3")]
     Level,
+    #[error("N: not a decimal number of 32 bits")]
+    Rows,
     #[error("the kind of access is read, write or fetch")]
     Kind,
     #[error("{0}: File name too long")]
@@ -50,6 +52,9 @@ pub enum Stop {
     /// the core gave an answer that a walk now would not, as standard output says
     #[error("a stale answer")]
     Stale,
+    /// some of what was asked was not looked at, as standard output says
+    #[error("not all was looked at")]
+    Unfinished,
     #[error("the proved core lost a tone of the chord")]
     LostTone,
     /// standard output takes no more
@@ -136,7 +141,7 @@ pub fn show<W: Write>(out: &mut W, alloc: Global, words: &[String], stop: Stop) 
         }
         Stop::Trace(trouble) => report::show(out, alloc, word_at(words, 1), trouble),
         Stop::Output(error) => report::system(out, alloc, "write", error),
-        Stop::Stale => Ok(()),
+        Stop::Stale | Stop::Unfinished => Ok(()),
         _ => writeln!(out, "a72: {stop}"),
     }
 }

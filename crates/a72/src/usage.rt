@@ -4,16 +4,19 @@ use std::io;
 use std::io::Write;
 use strsim::levenshtein;
 
-const COMMANDS: [&str; 7] = [
-    "run", "audit", "walk", "counters", "census", "chord", "help",
+const COMMANDS: [&str; 9] = [
+    "run", "reads", "audit", "walk", "counters", "census", "ranges", "chord", "help",
 ];
 
 // What each command does.
 const DETAILS: &str = "
 run      carries out a trace on the proved core and prints a line for each operation: its line number,
-         the operation, the answer, counters, registers kept and digests, as the Rust's run does; --short: no more
-         than the answer; --words: the answer, and below it names, faults, ESR, FAR, PAR and MAIR in words;
-         --full: after the trace each live entry of the cache and each hint.
+         the operation, the answer, the table descriptors that it read, counters, registers kept and digests, as the
+         Rust's run does; --short: no more than the answer and the reads; --words: these, and below them names,
+         faults, ESR, FAR, PAR and MAIR in words; --full: after the trace each live entry of the cache and each hint.
+         A comment `#= ANSWER; rd=3` says how many descriptors are to be read: the status is 1 where it is not so.
+reads    carries out a trace, then shows the pages whose walks read most table descriptors, N rows (decimal; 20):
+         level, page, regime, operations, descriptors, their share with a bar; then the others, and all.
 audit    carries out a trace, and beside each access walks the tables afresh: shows the first answer that such a walk
          would not give (--all: each), the line that filled the cache, the line that changed the table, and whether
          a TLBI came between. The status is 1 where there is one.
@@ -21,9 +24,12 @@ walk     carries out a trace, then shows one translation of ADDRESS (hexadecimal
          range, each descriptor, the end, and what the core answers. A read at the core's level, or as named.
          The status is 1 where the core answers otherwise than the walk.
 counters carries out a trace, then shows what the cache counted at each exception level: translations that an
-         entry answered, walks, the share of walks with a bar, the sums, and which level walks most.
+         entry answered, walks, descriptors that were read, the share of walks with a bar, the sums, and which
+         level walks and reads most.
 census   carries out a trace, then shows how the PAGES pages of 4 KiB from FIRST (both hexadecimal) end in a
          fresh walk at the core's level, or as named: a table, and a map; --svg: the map as a picture.
+ranges   carries out a trace, then shows what the tables map, from FIRST to LAST (hexadecimal) or of all addresses, at
+         the core's level, or as named: a row for each range of addresses that are mapped on and alike.
 chord    sixteen voices, a page each, and every order of a small chord: no tone is lost; against a stale
          cache, which loses one.
 
@@ -48,6 +54,7 @@ pub fn is_command(word: &str) -> bool {
 /// The calls.
 pub fn usage<W: Write>(out: &mut W) -> io::Result<()> {
     writeln!(out, "usage: a72 run TRACE [--short|--words] [--full]")?;
+    writeln!(out, "       a72 reads TRACE [N]")?;
     writeln!(out, "       a72 audit TRACE [--all]")?;
     writeln!(
         out,
@@ -55,6 +62,7 @@ pub fn usage<W: Write>(out: &mut W) -> io::Result<()> {
     )?;
     writeln!(out, "       a72 counters TRACE")?;
     writeln!(out, "       a72 census TRACE FIRST PAGES [LEVEL] [--svg]")?;
+    writeln!(out, "       a72 ranges TRACE [FIRST LAST] [LEVEL]")?;
     writeln!(out, "       a72 chord")?;
     writeln!(
         out,

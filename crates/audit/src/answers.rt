@@ -17,6 +17,7 @@ use tlb::access::{self, Kind};
 use tlb::count;
 use tlb::count::Tally;
 use tlb::entry::Entry;
+use tlb::work::Work;
 use walk_report::answer::Source;
 use word::ram::Width;
 
@@ -127,6 +128,7 @@ fn fresh(core: &Core, base: u64, ram: &[u8], kind: Kind, va: u64) -> Result<u64,
     }
     let leaf = bank
         .walk(regime, bank.untag(regime, va), base, ram)
+        .end
         .map_err(fault::first)?;
     let user = core.privilege.is_user(regime, kind);
     Entry::new(leaf, 0, 0).judge(user, kind, va)
@@ -147,14 +149,15 @@ pub fn answer(core: &mut Core, base: u64, ram: &[u8], ask: Ask) -> Answered
     ensures fresh { result.fresh ≡ fresh_answer core.old (window_of base ram.now) ask }
 {
     let before = tally(core);
+    let mut work = Work::none();
     let (answer, fresh) = match ask {
         Ask::Translates(kind, va) => {
             let fresh = fresh(core, base, ram, kind, va);
-            (core.translate(base, ram, va, kind), fresh)
+            (core.translate(base, ram, va, kind, &mut work), fresh)
         }
         Ask::Fetches(va) => {
             let fresh = fresh(core, base, ram, Kind::Fetch, va);
-            (core.translate_fetch(base, ram, va), fresh)
+            (core.translate_fetch(base, ram, va, &mut work), fresh)
         }
     };
     let on = core.bank().stage1_on(core.regime());

@@ -1,5 +1,5 @@
 -- The codes of the boundary, in numbers: the call and the exception that words name, and what is told of a reply.
-use Rattle.std.specs.Prelude.{◌≡◌, ℕ, false, true, List, [], ◌∷◌, Ok, Err}
+use Rattle.std.specs.Prelude.{◌≡◌, ℕ, false, true, List, [], ◌∷◌, ◌++◌, Ok, Err}
 use Rattle.fault.specs.First.{first}
 use Rattle.tlb.specs.declared.access.Kind.TheVariants.{Read, Write, Fetch}
 use Rattle.exception.specs.Abort.{data_abort_at, insn_abort_at}
@@ -9,9 +9,9 @@ use Rattle.call_words.specs.declared.{op.DecodedCall.DecodedCall, op.DecodedExce
 use Rattle.walk.specs.declared.level.Leaf.{Leaf}
 use Rattle.sysreg.specs.declared.regs.Regime.TheVariants.{El1, El2, El3}
 use Rattle.sysreg.specs.Regs.{regime_at}
-use Rattle.call_words.specs.Walk.{bank_at, leaf_after, code_of, walk_code}
+use Rattle.call_words.specs.Walk.{bank_at, leaf_after, code_of, words_of, walk_code, walk_words}
 use Rattle.call_words.specs.Ops.{exception_of, call_of}
-use Rattle.call_words.specs.Replies.{code_by, value_by, words_by}
+use Rattle.call_words.specs.Replies.{code_by, value_by, reads_by, words_by, step_words}
 
 -- CALLS
 
@@ -72,40 +72,45 @@ pub record ExceptionCodes (a b c : ℕ) : Type 0 where
 
 -- REPLIES
 
--- a reply's number, its value in a word that was `old`, and its four words
-pub record Gives (reply : Reply) (old number value : ℕ) (words : List ℕ) : Type 0 where
+-- a reply's number, its value and what was read in words that were `old`, its four words, and the fifth of a step
+pub record Gives (reply : Reply) (reads old number value told last : ℕ) (words : List ℕ) : Type 0 where
   pub by_number : code_by reply ≡ number
   pub by_value : value_by reply old ≡ value
+  pub by_reads : reads_by reply reads old ≡ told
   pub by_words : words_by reply ≡ words
+  pub by_step : step_words reply reads ≡ words ++ (last ∷ [])
 
 abbrev pub stopped_by : Exception → Reply
 stopped_by e = Reply.Stopped (Stop.Exception e)
 
 -- the faults have status 0x21
-pub record ReplyCodes (a old : ℕ) : Type 0 where
-  pub done : Gives Reply.Done old 0 old (0 ∷ 0 ∷ 0 ∷ 0 ∷ [])
-  pub value : Gives (Reply.Value a) old 0 a (1 ∷ a ∷ 0 ∷ 0 ∷ [])
-  pub faults : Gives Reply.Faults old 0x100 old (2 ∷ 0 ∷ 0 ∷ 0 ∷ [])
-  pub refused : Gives (Reply.Refused 7) old 7 old (5 ∷ 7 ∷ 0 ∷ 0 ∷ [])
-  pub undefined : Gives (stopped_by Exception.Undefined) old 65 old (6 ∷ 0 ∷ 0 ∷ 0 ∷ [])
-  pub unimplemented : Gives (Reply.Stopped Stop.Unimplemented) old 66 old (7 ∷ 0 ∷ 0 ∷ 0 ∷ [])
-  pub fault : Gives (Reply.Fault a (first 0x21)) old 0x121 old (8 ∷ a ∷ 0x21 ∷ 0 ∷ [])
-  pub load : Gives (stopped_by (data_abort_at a false (first 0x21))) old 0x121 a (9 ∷ a ∷ 0x21 ∷ 0 ∷ [])
-  pub store : Gives (stopped_by (data_abort_at a true (first 0x21))) old 0x121 a (9 ∷ a ∷ 0x21 ∷ 1 ∷ [])
-  pub insn_abort : Gives (stopped_by (insn_abort_at a (first 0x21))) old 0x121 old (10 ∷ a ∷ 0x21 ∷ 0 ∷ [])
+pub record ReplyCodes (a reads old : ℕ) : Type 0 where
+  pub done : Gives Reply.Done reads old 0 old reads reads (0 ∷ 0 ∷ 0 ∷ 0 ∷ [])
+  pub value : Gives (Reply.Value a) reads old 0 a reads reads (1 ∷ a ∷ 0 ∷ 0 ∷ [])
+  pub faults : Gives Reply.Faults reads old 0x100 old reads reads (2 ∷ 0 ∷ 0 ∷ 0 ∷ [])
+  pub refused : Gives (Reply.Refused 7) reads old 7 old old 0 (5 ∷ 7 ∷ 0 ∷ 0 ∷ [])
+  pub undefined : Gives (stopped_by Exception.Undefined) reads old 65 old old 0 (6 ∷ 0 ∷ 0 ∷ 0 ∷ [])
+  pub unimplemented : Gives (Reply.Stopped Stop.Unimplemented) reads old 66 old old 0 (7 ∷ 0 ∷ 0 ∷ 0 ∷ [])
+  pub fault : Gives (Reply.Fault a (first 0x21)) reads old 0x121 old reads reads (8 ∷ a ∷ 0x21 ∷ 0 ∷ [])
+  pub load : Gives (stopped_by (data_abort_at a false (first 0x21))) reads old 0x121 a reads reads (9 ∷ a ∷ 0x21 ∷ 0 ∷ [])
+  pub store : Gives (stopped_by (data_abort_at a true (first 0x21))) reads old 0x121 a reads reads (9 ∷ a ∷ 0x21 ∷ 1 ∷ [])
+  pub insn_abort : Gives (stopped_by (insn_abort_at a (first 0x21))) reads old 0x121 old reads reads (10 ∷ a ∷ 0x21 ∷ 0 ∷ [])
 
 -- WALKS of the tables by lent words
 
 abbrev a_leaf : Leaf
 a_leaf = record { oa = 11; desc = 12; perms = 13; level = 3; global = true }
 
--- regimes 1 to 3, the words of the registers and of a leaf, and the numbers
+-- regimes 1 to 3, the words of the registers and of a leaf with what was read, and the numbers
 pub record WalkCodes (words : List ℕ) (va : ℕ) : Type 0 where
   pub el1 : regime_at 1 ≡ Ok El1
   pub el2 : regime_at 2 ≡ Ok El2
   pub el3 : regime_at 3 ≡ Ok El3
   pub registers : bank_at (11 ∷ 12 ∷ 13 ∷ 14 ∷ 15 ∷ 16 ∷ []) ≡ record { sctlr = 11; tcr = 12; ttbr0 = 13; ttbr1_el1 = 14; scr_el3 = 15; hcr_el2 = 16 }
-  pub leaf : leaf_after a_leaf ≡ (11 ∷ 12 ∷ 13 ∷ 3 ∷ 1 ∷ [])
+  pub leaf : leaf_after a_leaf 4 ≡ (11 ∷ 12 ∷ 13 ∷ 3 ∷ 1 ∷ 4 ∷ [])
+  -- a fault writes the sixth word alone, a walk that is refused none
+  pub faulted : words_of (Err 0x21) 4 (1 ∷ 2 ∷ 3 ∷ 5 ∷ 6 ∷ 7 ∷ []) ≡ (1 ∷ 2 ∷ 3 ∷ 5 ∷ 6 ∷ 4 ∷ [])
+  pub refused : (out : List ℕ) → walk_words words 0 va 0 [] out ≡ out
   pub no_regime_0 : walk_code words 0 va 0 [] ≡ 64
   pub no_regime_4 : walk_code words 4 va 0 [] ≡ 64
   -- two bytes at the last address

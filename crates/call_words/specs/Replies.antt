@@ -1,5 +1,5 @@
--- A reply as a number and a word, and as four words.
-use Rattle.std.specs.Prelude.{List, [], ◌∷◌, ℕ, ◌+◌}
+-- A reply as a number and a report, as four words, and as the five of a step.
+use Rattle.std.specs.Prelude.{List, [], ◌∷◌, ◌++◌, ℕ, ◌+◌}
 use Rattle.word.specs.Bits.{flag}
 use Rattle.exception.specs.declared.{kind.Exception.Exception, kind.Stop.Stop}
 use Rattle.exception.specs.declared.kind.Exception.TheVariants.{Undefined, Svc, Hvc, Smc, Brk, DataAbort, InsnAbort, PcAlignment}
@@ -53,6 +53,29 @@ value_by Faults old = old
 value_by (Fault addr f) old = old
 value_by (Stopped s) old = stop_value s old
 
+-- the descriptors read, with a value or a fault; where a call is refused, Undefined or Unimplemented the word stays
+abbrev pub exception_reads : Exception → ℕ → ℕ → ℕ
+exception_reads (DataAbort a) reads old = reads
+exception_reads (InsnAbort a) reads old = reads
+exception_reads Undefined reads old = old
+exception_reads (Svc imm) reads old = old
+exception_reads (Hvc imm) reads old = old
+exception_reads (Smc imm) reads old = old
+exception_reads (Brk imm) reads old = old
+exception_reads PcAlignment reads old = old
+
+abbrev pub stop_reads : Stop → ℕ → ℕ → ℕ
+stop_reads (Stop.Exception e) reads old = exception_reads e reads old
+stop_reads Stop.Unimplemented reads old = old
+
+abbrev pub reads_by : Reply → ℕ → ℕ → ℕ
+reads_by (Refused n) reads old = old
+reads_by Done reads old = reads
+reads_by (Value v) reads old = reads
+reads_by Faults reads old = reads
+reads_by (Fault addr f) reads old = reads
+reads_by (Stopped s) reads old = stop_reads s reads old
+
 -- four words: what it is, then what it holds
 abbrev pub four : ℕ → ℕ → ℕ → ℕ → List ℕ
 four a b c d = a ∷ b ∷ c ∷ d ∷ []
@@ -78,3 +101,7 @@ words_by (Value v) = four 1 v 0 0
 words_by Faults = four 2 0 0 0
 words_by (Fault addr f) = four 8 addr f.fsc 0
 words_by (Stopped s) = stop_words s
+
+-- of a step a fifth: the descriptors read, 0 where nothing is reported
+abbrev pub step_words : Reply → ℕ → List ℕ
+step_words r reads = words_by r ++ (reads_by r reads 0 ∷ [])

@@ -1,24 +1,43 @@
-// A reply as a number and a word, and as four words.
+// A reply as a number and a report, as four words, and as the five of a step.
 ghost use Rattle.std.specs.Prelude.{◌≡◌};
 ghost use Rattle.call_words.specs.Replies.{exception_code, stop_code, code_by, exception_value, stop_value, value_by};
-ghost use Rattle.call_words.specs.Replies.{exception_words, stop_words, words_by};
+ghost use Rattle.call_words.specs.Replies.{exception_reads, stop_reads, reads_by};
+ghost use Rattle.call_words.specs.Replies.{exception_words, stop_words, words_by, step_words};
 ghost use Rattle.cpu.specs.Replies.{storing};
 
 use cpu::call::Reply;
 use exception::kind::{Exception, Stop};
+use tlb::work::Work;
 use word::bits;
 
-// The number of an exception that stops an operation, and the address of a data abort.
-fn put_answer(e: Exception, ans: &mut u64) -> u64
-    ensures value { result ≡ exception_code e }
-    ensures ans_after { ans.new ≡ exception_value e ans.old }
+/// What a call reports beside its number. With a number from 1 to 255 nothing of it is written.
+#[repr(C)]
+#[derive(Clone, Copy)]
+pub struct Report {
+    /// the value, or of a data abort its address; what has neither leaves it
+    pub value: u64,
+    /// the table descriptors that the call's walks read
+    pub reads: u64,
+}
+
+// The number of an exception that stops an operation, and the report of an abort.
+fn put_answer(e: Exception, work: Work, ans: &mut Report) -> u64
+    ensures number { result ≡ exception_code e }
+    ensures value { ans.new.value ≡ exception_value e ans.old.value }
+    ensures reads { ans.new.reads ≡ exception_reads e work.reads ans.old.reads }
 {
     match e {
         Exception::DataAbort(a) => {
-            *ans = a.addr;
+            *ans = Report {
+                value: a.addr,
+                reads: work.reads,
+            };
             256 + a.fault.fsc as u64
         }
-        Exception::InsnAbort(a) => 256 + a.fault.fsc as u64,
+        Exception::InsnAbort(a) => {
+            ans.reads = work.reads;
+            256 + a.fault.fsc as u64
+        }
         Exception::Undefined => 65,
         Exception::Svc(_) => 65,
         Exception::Hvc(_) => 65,
@@ -28,51 +47,61 @@ fn put_answer(e: Exception, ans: &mut u64) -> u64
     }
 }
 
-fn stopped(stop: Stop, ans: &mut u64) -> u64
-    ensures value { result ≡ stop_code stop }
-    ensures ans_after { ans.new ≡ stop_value stop ans.old }
+fn stopped(stop: Stop, work: Work, ans: &mut Report) -> u64
+    ensures number { result ≡ stop_code stop }
+    ensures value { ans.new.value ≡ stop_value stop ans.old.value }
+    ensures reads { ans.new.reads ≡ stop_reads stop work.reads ans.old.reads }
 {
     match stop {
-        Stop::Exception(e) => put_answer(e, ans),
+        Stop::Exception(e) => put_answer(e, work, ans),
         Stop::Unimplemented => 66,
     }
 }
 
-// The number of a store's answer, and in ans the address of its data abort.
-pub fn stored(answer: Result<(), Stop>, ans: &mut u64) -> u64
-    ensures value { result ≡ code_by (storing answer) }
-    ensures ans_after { ans.new ≡ value_by (storing answer) ans.old }
+// The number of a store's answer, and in ans the address of its data abort and what was read.
+pub fn stored(answer: Result<(), Stop>, work: Work, ans: &mut Report) -> u64
+    ensures number { result ≡ code_by (storing answer) }
+    ensures value { ans.new.value ≡ value_by (storing answer) ans.old.value }
+    ensures reads { ans.new.reads ≡ reads_by (storing answer) work.reads ans.old.reads }
 {
     match answer {
-        Ok(()) => 0,
-        Err(stop) => stopped(stop, ans),
+        Ok(()) => {
+            ans.reads = work.reads;
+            0
+        }
+        Err(stop) => stopped(stop, work, ans),
     }
 }
 
-// The number of a reply, and in ans its value or the address of its data abort.
-pub fn answer(reply: Reply, ans: &mut u64) -> u64
-    ensures value { result ≡ code_by reply }
-    ensures ans_after { ans.new ≡ value_by reply ans.old }
+// The number of a reply, and in ans its value or the address of its data abort, and what was read.
+pub fn answer(reply: Reply, work: Work, ans: &mut Report) -> u64
+    ensures number { result ≡ code_by reply }
+    ensures value { ans.new.value ≡ value_by reply ans.old.value }
+    ensures reads { ans.new.reads ≡ reads_by reply work.reads ans.old.reads }
 {
     match reply {
         Reply::Refused(n) => n as u64,
-        Reply::Done => 0,
-        Reply::Value(v) => {
-            *ans = v;
+        Reply::Done => {
+            ans.reads = work.reads;
             0
         }
-        Reply::Faults => 256,
-        Reply::Fault { addr: _, fault } => 256 + fault.fsc as u64,
-        Reply::Stopped(stop) => stopped(stop, ans),
+        Reply::Value(v) => {
+            *ans = Report {
+                value: v,
+                reads: work.reads,
+            };
+            0
+        }
+        Reply::Faults => {
+            ans.reads = work.reads;
+            256
+        }
+        Reply::Fault { addr: _, fault } => {
+            ans.reads = work.reads;
+            256 + fault.fsc as u64
+        }
+        Reply::Stopped(stop) => stopped(stop, work, ans),
     }
-}
-
-// Its number alone.
-pub fn number(reply: Reply) -> u64
-    ensures { result ≡ code_by reply }
-{
-    let mut dropped: u64 = 0;
-    answer(reply, &mut dropped)
 }
 
 fn exception_words(e: Exception) -> [u64; 4]
@@ -115,4 +144,14 @@ pub fn words(reply: Reply) -> [u64; 4]
         Reply::Fault { addr, fault } => [8, addr, fault.fsc as u64, 0],
         Reply::Stopped(stop) => stop_words(stop),
     }
+}
+
+// The four words, and then what was read: 0 where nothing of a report is written.
+pub fn step_words(reply: Reply, work: Work) -> [u64; 5]
+    ensures { result ≡ step_words reply work.reads }
+{
+    let mut report = Report { value: 0, reads: 0 };
+    answer(reply, work, &mut report);
+    let [kind, a, b, c] = words(reply);
+    [kind, a, b, c, report.reads]
 }

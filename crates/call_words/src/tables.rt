@@ -1,4 +1,4 @@
-// One walk of the tables, of registers and RAM that the caller lends. A number other than 0 writes no word of the leaf.
+// One walk of the tables, of registers and RAM that the caller lends: a leaf, and how many descriptors were read.
 ghost use Rattle.std.specs.Prelude.{◌≡◌, ◌+◌};
 ghost use Rattle.call_words.specs.Walk.{bank_at, leaf_after, walk_code, walk_words};
 
@@ -22,9 +22,10 @@ fn bank_at(words: &[u64; 6]) -> Bank
     }
 }
 
-// The leaf as five words: output address, descriptor, permission byte, level, and 1 where it holds for every ASID.
-fn put_leaf(out: &mut [u64; 5], leaf: Leaf)
-    ensures { out.new ≡ leaf_after leaf }
+// The leaf as five words: output address, descriptor, permission byte, level, and 1 where it holds for every ASID; and
+// what was read.
+fn put_leaf(out: &mut [u64; 6], leaf: Leaf, reads: u8)
+    ensures { out.new ≡ leaf_after leaf reads }
 {
     let global = bits::flag_word(leaf.global);
     *out = [
@@ -33,17 +34,18 @@ fn put_leaf(out: &mut [u64; 5], leaf: Leaf)
         leaf.perms as u64,
         leaf.level as u64,
         global,
+        reads as u64,
     ];
 }
 
-// One walk of an untagged address: 0 and the leaf, or 256 plus the fault's status; 64 for no regime, 2 for a window
-// that passes 2^64.
+// One walk of an untagged address: 0 and the leaf, or 256 plus the fault's status, and in either case how many
+// descriptors it read; 64 for no regime, 2 for a window that passes 2^64, and no word is written.
 #[tactic(auto, unfolding(crate::specs::Walk::walk_code, crate::specs::Walk::walk_words))]
 pub fn walk_words(
     words: &[u64; 6],
     number: u64,
     va: u64,
-    out: &mut [u64; 5],
+    out: &mut [u64; 6],
     base: u64,
     ram: &[u8],
 ) -> u64
@@ -57,12 +59,16 @@ pub fn walk_words(
                 return 2;
             }
             let bank = bank_at(words);
-            match bank.walk(regime, va, base, ram) {
+            let walked = bank.walk(regime, va, base, ram);
+            match walked.end {
                 Ok(leaf) => {
-                    put_leaf(out, leaf);
+                    put_leaf(out, leaf, walked.reads);
                     0
                 }
-                Err(status) => 256 + status as u64,
+                Err(status) => {
+                    out[5] = walked.reads as u64;
+                    256 + status as u64
+                }
             }
         }
         Err(_) => 64,

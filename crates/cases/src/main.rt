@@ -6,7 +6,7 @@ use sysreg::regs::Regime;
 use walk::regime::Bank;
 
 // What a row gives: the word at 0x1008, TTBR0_EL1, the window's base, the address, and the permission bit that the
-// access needs. Shown, it is how the translation ends with an empty cache.
+// access needs. Shown, it is how the translation ends with an empty cache, and the descriptors read.
 #[derive(Clone, Copy)]
 struct Row {
     word: u64,
@@ -32,13 +32,15 @@ impl fmt::Display for Row {
     fn fmt<W: fmt::Write>(&self, f: &mut fmt::Formatter<W>) -> fmt::Result {
         let bank = registers(25, self.ttbr0);
         let va = bank.untag(Regime::El1, self.va);
-        match bank.walk(Regime::El1, va, self.base, &self.word.to_le_bytes()) {
+        let walked = bank.walk(Regime::El1, va, self.base, &self.word.to_le_bytes());
+        match walked.end {
             Ok(leaf) if leaf.perms >> (self.need % 8) & 1 == 1 => {
-                write!(f, "0x{:x}", leaf.oa & !0xFFF | self.va & 0xFFF)
+                write!(f, "0x{:x}", leaf.oa & !0xFFF | self.va & 0xFFF)?;
             }
-            Ok(leaf) => write!(f, "fault 0x{:02x}", 12 | leaf.level % 4),
-            Err(status) => write!(f, "fault 0x{status:02x}"),
+            Ok(leaf) => write!(f, "fault 0x{:02x}", 12 | leaf.level % 4)?,
+            Err(status) => write!(f, "fault 0x{status:02x}")?,
         }
+        write!(f, "  rd={}", walked.reads)
     }
 }
 

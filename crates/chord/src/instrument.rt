@@ -1,5 +1,6 @@
 // The instrument: a core, its tables and frames in RAM, and what the firmware does to them at note-on and note-off.
 use crate::note::Note;
+use call_words::reply::Report;
 use core_calls::{memory, settings, step};
 use cpu::Core;
 use std::fmt;
@@ -186,7 +187,7 @@ impl Instrument {
 
     // TLBI VAE1 of a voice's page.
     fn invalidate(&mut self, voice: usize) {
-        let mut answer = 0;
+        let mut answer = Report { value: 0, reads: 0 };
         settings::general(&mut self.core, 1, page(voice));
         step::system(
             &mut self.core,
@@ -203,7 +204,7 @@ impl Instrument {
 
     /// What a voice gives, read through the core.
     pub fn hear(&mut self, voice: usize) -> Note {
-        let mut note = 0;
+        let mut note = Report { value: 0, reads: 0 };
         match memory::load(
             &mut self.core,
             address(voice),
@@ -212,7 +213,7 @@ impl Instrument {
             BASE,
             self.ram.as_slice(),
         ) {
-            0 => Note(note),
+            0 => Note(note.value),
             _ => Note::SILENCE,
         }
     }

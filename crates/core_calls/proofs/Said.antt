@@ -1,6 +1,6 @@
--- How a promise is met: by what the quick call says of its number, its word and its core.
+-- How a promise is met: by what the quick call says of its number, its report and its core.
 use Rattle.std.specs.Prelude.{if◌then◌else◌, ◌≡◌, eqb, List, ℕ, Bool, true, false, Result, Ok, Err}
-use Rattle.std.proofs.Common.{refl, sym}
+use Rattle.std.proofs.Common.{refl, sym, ap}
 use Rattle.cpu.specs.declared.Core.{Core}
 use Rattle.cpu.specs.declared.call.Call.{Call}
 use Rattle.cpu.specs.Step.{step_of, ram_after}
@@ -10,34 +10,47 @@ use Rattle.call_words.specs.Ops.{translate_call, mark_call}
 use Rattle.tlb.specs.declared.{access.Kind.Kind, access.NoSuchKind.NoSuchKind}
 use Rattle.call_words.specs.declared.op.DecodedCall.{DecodedCall}
 use Rattle.call_words.specs.declared.op.DecodedCall.TheVariants.{Known, Unknown}
-use Rattle.quick.specs.Says.{Tells, Nothing, Says, Sets}
+use Rattle.cpu.specs.Work.{step_work}
+use Rattle.tlb.specs.Work.{no_work}
+use Rattle.call_words.specs.declared.reply.Report.{Report}
+use Rattle.quick.specs.Says.{Tells, Nothing, Says, Sets, unread}
 use Rattle.core_calls.specs.Promise.{Promise, Setting}
 use Rattle.core_calls.proofs.Promised.{by-number}
 
 module _ (x : Call) (base : ℕ) (ram : List ℕ) (c : Core) where
-  pub told : (n old v : ℕ) (ys : List ℕ) (d : Core) → Tells (step_of c base ram x) old n v d → ys ≡ ram_after c base ram x → Promise (Known x) base ram c n old v ys d
-  told n old v ys d t ey = by-number x base ram c n old v ys d t.number t.value ey t.core
+  pub told : (n : ℕ) (old new : Report) (ys : List ℕ) (d : Core) → Tells (step_of c base ram x) (step_work c base ram x no_work) old n new d → ys ≡ ram_after c base ram x
+      → Promise (Known x) base ram c n old new ys d
+  told n old new ys d t ey = by-number x base ram c n old new ys d t.number t.value t.reads ey t.core
 
   -- of one that writes no byte
-  pub read-told : writes c x ≡ false → (n old v : ℕ) (d : Core) → Tells (step_of c base ram x) old n v d → Promise (Known x) base ram c n old v ram d
-  read-told q n old v d t = told n old v ram d t (sym (quiet c base ram x q))
+  pub read-told : writes c x ≡ false → (n : ℕ) (old new : Report) (d : Core) → Tells (step_of c base ram x) (step_work c base ram x no_work) old n new d
+      → Promise (Known x) base ram c n old new ram d
+  read-told q n old new d t = told n old new ram d t (sym (quiet c base ram x q))
 
 -- words that name no call
-nothing : (base : ℕ) (ram : List ℕ) (c : Core) (n old v : ℕ) (d : Core) → Nothing c old n v d → Promise Unknown base ram c n old v ram d
-nothing base ram c n old v d s =
-    record { code = s.number; value = s.value; bytes = refl; core = s.core; unchanged = λ l h. (s.core, (refl, s.value)); faithful = tt }
+nothing : (base : ℕ) (ram : List ℕ) (c : Core) (n : ℕ) (old new : Report) (d : Core) → Nothing c old n new d → Promise Unknown base ram c n old new ram d
+nothing base ram c n old new d s =
+    record {
+      code = s.number;
+      value = ap (λ (r : Report). r.value) s.report;
+      reads = ap (λ (r : Report). r.reads) s.report;
+      bytes = refl;
+      core = s.core;
+      unchanged = λ l h. (s.core, (refl, s.report));
+      faithful = tt;
+    }
 
-pub translation-said : (w : Result Kind NoSuchKind) (va base : ℕ) (ram : List ℕ) (c : Core) (n old v : ℕ) (d : Core) → Says (translate_call w va) c base ram old n v d
-    → Promise (translate_call w va) base ram c n old v ram d
+pub translation-said : (w : Result Kind NoSuchKind) (va base : ℕ) (ram : List ℕ) (c : Core) (n : ℕ) (old new : Report) (d : Core) → Says (translate_call w va) c base ram old n new d
+    → Promise (translate_call w va) base ram c n old new ram d
 unfolding translate_call
-translation-said (Ok k) va base ram c n old v d s = read-told (Call.Translate k va) base ram c refl n old v d s
-translation-said (Err e) va base ram c n old v d s = nothing base ram c n old v d s
+translation-said (Ok k) va base ram c n old new d s = read-told (Call.Translate k va) base ram c refl n old new d s
+translation-said (Err e) va base ram c n old new d s = nothing base ram c n old new d s
 
 pub set-said : (x : Call) (c : Core) → writes c x ≡ false → (n : ℕ) (d : Core) → Sets (Known x) c n d → Setting (Known x) c n d
-set-said x c q n d s = record { on = λ base ram old. read-told x base ram c q n old old d (s.on base ram old) }
+set-said x c q n d s = record { on = λ base ram v. read-told x base ram c q n (unread v) (unread v) d (s.on base ram v) }
 
 unnamed-said : (c : Core) (n : ℕ) (d : Core) → Sets Unknown c n d → Setting Unknown c n d
-unnamed-said c n d s = record { on = λ base ram old. nothing base ram c n old old d (s.on base ram old) }
+unnamed-said c n d s = record { on = λ base ram v. nothing base ram c n (unread v) (unread v) d (s.on base ram v) }
 
 -- a mark by the two tests of its word
 abbrev mark_by : Bool → Bool → DecodedCall

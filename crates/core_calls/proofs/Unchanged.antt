@@ -10,7 +10,7 @@ use Rattle.cpu.specs.Step.{step_of, ram_after}
 use Rattle.cpu.specs.EveryCallEnds.{Outcome, number, says, outcome_of, Wrote, did, faulted}
 use Rattle.cpu.specs.EveryCallEnds.{Ran, is-undefined, is-unimplemented, valued, unreached, stopped, wrote-ram, Ended, is-refused, has-run}
 use Rattle.cpu.proofs.Refusing.{each_call_ends}
-use Rattle.call_words.specs.Replies.{code_by, value_by, words_by}
+use Rattle.call_words.specs.Replies.{code_by, value_by, reads_by, words_by, step_words}
 
 -- a refusal, Undefined, Unimplemented, and the exceptions that stop no operation
 abbrev pub still_said : Said → Bool
@@ -87,20 +87,37 @@ value-still (Stopped (Stop.Exception (Exception.Smc imm))) old e = refl
 value-still (Stopped (Stop.Exception (Exception.Brk imm))) old e = refl
 value-still (Stopped (Stop.Exception Exception.PcAlignment)) old e = refl
 
+-- nor does it report what it read
+pub reads-still : (r : Reply) (reads old : ℕ) → still (outcome_of r) ≡ true → reads_by r reads old ≡ old
+reads-still (Refused n) reads old e = refl
+reads-still Done reads old e = never e
+reads-still (Value v) reads old e = never e
+reads-still Faults reads old e = never e
+reads-still (Fault addr f) reads old e = never e
+reads-still (Stopped Stop.Unimplemented) reads old e = refl
+reads-still (Stopped (Stop.Exception (Exception.DataAbort a))) reads old e = never e
+reads-still (Stopped (Stop.Exception (Exception.InsnAbort a))) reads old e = never e
+reads-still (Stopped (Stop.Exception Exception.Undefined)) reads old e = refl
+reads-still (Stopped (Stop.Exception (Exception.Svc imm))) reads old e = refl
+reads-still (Stopped (Stop.Exception (Exception.Hvc imm))) reads old e = refl
+reads-still (Stopped (Stop.Exception (Exception.Smc imm))) reads old e = refl
+reads-still (Stopped (Stop.Exception (Exception.Brk imm))) reads old e = refl
+reads-still (Stopped (Stop.Exception Exception.PcAlignment)) reads old e = refl
+
 -- an answer whose first word is 5, 6 or 7 is of such a reply
-pub words-still : (r : Reply) → 4 < get_or (words_by r) 0 0 → get_or (words_by r) 0 0 < 8 → still (outcome_of r) ≡ true
+pub words-still : (r : Reply) (reads : ℕ) → 4 < get_or (step_words r reads) 0 0 → get_or (step_words r reads) 0 0 < 8 → still (outcome_of r) ≡ true
 unfolding words_by
-words-still (Refused n) l h = refl
-words-still Done l h = absurd (omega arith)
-words-still (Value v) l h = absurd (omega arith)
-words-still Faults l h = absurd (omega arith)
-words-still (Fault addr f) l h = absurd (omega arith)
-words-still (Stopped Stop.Unimplemented) l h = refl
-words-still (Stopped (Stop.Exception (Exception.DataAbort a))) l h = absurd (omega arith)
-words-still (Stopped (Stop.Exception (Exception.InsnAbort a))) l h = absurd (omega arith)
-words-still (Stopped (Stop.Exception Exception.Undefined)) l h = refl
-words-still (Stopped (Stop.Exception (Exception.Svc imm))) l h = refl
-words-still (Stopped (Stop.Exception (Exception.Hvc imm))) l h = refl
-words-still (Stopped (Stop.Exception (Exception.Smc imm))) l h = refl
-words-still (Stopped (Stop.Exception (Exception.Brk imm))) l h = refl
-words-still (Stopped (Stop.Exception Exception.PcAlignment)) l h = refl
+words-still (Refused n) reads l h = refl
+words-still Done reads l h = absurd (omega arith)
+words-still (Value v) reads l h = absurd (omega arith)
+words-still Faults reads l h = absurd (omega arith)
+words-still (Fault addr f) reads l h = absurd (omega arith)
+words-still (Stopped Stop.Unimplemented) reads l h = refl
+words-still (Stopped (Stop.Exception (Exception.DataAbort a))) reads l h = absurd (omega arith)
+words-still (Stopped (Stop.Exception (Exception.InsnAbort a))) reads l h = absurd (omega arith)
+words-still (Stopped (Stop.Exception Exception.Undefined)) reads l h = refl
+words-still (Stopped (Stop.Exception (Exception.Svc imm))) reads l h = refl
+words-still (Stopped (Stop.Exception (Exception.Hvc imm))) reads l h = refl
+words-still (Stopped (Stop.Exception (Exception.Smc imm))) reads l h = refl
+words-still (Stopped (Stop.Exception (Exception.Brk imm))) reads l h = refl
+words-still (Stopped (Stop.Exception Exception.PcAlignment)) reads l h = refl

@@ -12,24 +12,28 @@ use Rattle.transparency.specs.Replies.{outcome, bare_reply}
 use Rattle.transparency.specs.Beside.{core_after, bare_after}
 use Rattle.transparency.specs.Census.{bare_counts}
 use Rattle.transparency.specs.Faithful.{Faithful}
-use Rattle.call_words.specs.Replies.{code_by, value_by, words_by}
+use Rattle.call_words.specs.Replies.{code_by, value_by, step_words}
+use Rattle.call_words.specs.declared.reply.Report.{Report}
 use Rattle.call_words.specs.declared.op.DecodedCall.{DecodedCall}
 use Rattle.call_words.specs.declared.op.DecodedCall.TheVariants.{Known, Unknown}
-use Rattle.core_calls.specs.Named.{call_number, call_value, call_ram, call_core, call_code, call_words}
+use Rattle.quick.specs.Says.{unread}
+use Rattle.core_calls.specs.Named.{call_number, call_value, call_reads, call_ram, call_core, call_code, call_words}
 
 -- FAITHFULNESS
 
--- The number n, the value v (the word was old) and the bytes ys tell a reply that is faithful after a list of calls.
+-- The number n, the value v (the word was old) and the bytes ys tell a reply that is faithful after a list of calls. What was read is no part
+-- of it: the core without a cache reads more.
 pub record FaithfulNumber (list : List (Lent real machine)) (m : Ram) (x : Call) (n old v : ℕ) (ys : List ℕ) : Type 0 where
   pub reply : Reply
   pub number_is : n ≡ code_by reply
   pub value_is : v ≡ value_by reply old
   pub faithful : Faithful list m x (outcome reply ys)
 
--- the same of four words
+-- the same of five words, of which the last, whatever it is, says what was read
 pub record FaithfulWords (list : List (Lent real machine)) (m : Ram) (x : Call) (v ys : List ℕ) : Type 0 where
   pub reply : Reply
-  pub words_are : v ≡ words_by reply
+  pub reads : ℕ
+  pub words_are : v ≡ step_words reply reads
   pub faithful : Faithful list m x (outcome reply ys)
 
 -- whatever list of calls left the core; of words that name no call nothing is asked
@@ -39,21 +43,23 @@ AfterEveryList Unknown promise c = Unit {0}
 
 -- THE CALLS
 
--- A call that gives a number n and a word v, which was old, and leaves the bytes ys and the core d.
+-- A call that gives a number n and a report, which was old, and leaves the bytes ys and the core d.
+--   reads       the descriptors that its walks read, in every report with a value or a fault
 --   unchanged   a number from 1 to 255 says that nothing was written
-pub record Promise (call : DecodedCall) (base : ℕ) (ram : List ℕ) (c : Core) (n old v : ℕ) (ys : List ℕ) (d : Core) : Type 0 where
+pub record Promise (call : DecodedCall) (base : ℕ) (ram : List ℕ) (c : Core) (n : ℕ) (old new : Report) (ys : List ℕ) (d : Core) : Type 0 where
   pub code : n ≡ call_number call c base ram
-  pub value : v ≡ call_value call c base ram old
+  pub value : new.value ≡ call_value call c base ram old.value
+  pub reads : new.reads ≡ call_reads call c base ram old.reads
   pub bytes : ys ≡ call_ram call c base ram
   pub core : d ≡ call_core call c base ram
-  pub unchanged : 0 < n → n < 256 → (d ≡ c) × ((ys ≡ ram) × (v ≡ old))
-  pub faithful : AfterEveryList call (λ list x. FaithfulNumber list (ram_of base ram) x n old v ys) c
+  pub unchanged : 0 < n → n < 256 → (d ≡ c) × ((ys ≡ ram) × (new ≡ old))
+  pub faithful : AfterEveryList call (λ list x. FaithfulNumber list (ram_of base ram) x n old.value new.value ys) c
 
--- a call that is handed neither RAM nor a word, whatever RAM stands there
+-- a call that is handed neither RAM nor a report, whatever RAM stands there: it has no value, and reads nothing
 pub record Setting (call : DecodedCall) (c : Core) (n : ℕ) (d : Core) : Type 0 where
-  pub on : (base : ℕ) (ram : List ℕ) (old : ℕ) → Promise call base ram c n old old ram d
+  pub on : (base : ℕ) (ram : List ℕ) (v : ℕ) → Promise call base ram c n (unread v) (unread v) ram d
 
--- Every call by eight words: 0, and its answer in four.
+-- Every call by eight words: 0, and in five its answer and what it read.
 --   unnamed     where the words name no call nothing is written
 --   unchanged   where the answer is a refusal, Undefined or Unimplemented (5, 6, 7), nothing of the core and no byte
 pub record StepPromise (call : DecodedCall) (base : ℕ) (ram : List ℕ) (c : Core) (n : ℕ) (old v ys : List ℕ) (d : Core) : Type 0 where

@@ -1,15 +1,23 @@
 // Translations, loads, stores and fetches. Each gives a number, and in `ans` the address or value, or the address
-// of a data abort.
+// of a data abort, and the descriptors that were read.
 ghost use Rattle.std.specs.Prelude.{◌≡◌};
 ghost use Rattle.cpu.specs.declared.call.Call.TheVariants as Call;
 ghost use Rattle.call_words.specs.declared.op.DecodedCall.TheVariants as DecodedCall;
 ghost use Rattle.call_words.specs.Ops.{kind_of, translate_call};
 ghost use Rattle.core_calls.specs.Promise.{Promise};
 
+use call_words::reply::Report;
 use cpu::Core;
 
 /// The translation of `va` for an access of a kind: 1 read, 2 write, 4 fetch.
-pub fn translate(core: &mut Core, va: u64, kind: u64, ans: &mut u64, base: u64, ram: &[u8]) -> u64
+pub fn translate(
+    core: &mut Core,
+    va: u64,
+    kind: u64,
+    ans: &mut Report,
+    base: u64,
+    ram: &[u8],
+) -> u64
     ensures { Promise (translate_call (kind_of kind) va) base ram.now core.old result
         ans.old ans.new ram.now core.new }
 {
@@ -17,7 +25,7 @@ pub fn translate(core: &mut Core, va: u64, kind: u64, ans: &mut u64, base: u64, 
 }
 
 /// Where a data read of `va` goes.
-pub fn data_pa(core: &mut Core, va: u64, ans: &mut u64, base: u64, ram: &[u8]) -> u64
+pub fn data_pa(core: &mut Core, va: u64, ans: &mut Report, base: u64, ram: &[u8]) -> u64
     ensures { Promise (DecodedCall.Known (Call.DataPa va)) base ram.now core.old result
         ans.old ans.new ram.now core.new }
 {
@@ -25,7 +33,7 @@ pub fn data_pa(core: &mut Core, va: u64, ans: &mut u64, base: u64, ram: &[u8]) -
 }
 
 /// Where a fetch of `va` goes.
-pub fn fetch_pa(core: &mut Core, va: u64, ans: &mut u64, base: u64, ram: &[u8]) -> u64
+pub fn fetch_pa(core: &mut Core, va: u64, ans: &mut Report, base: u64, ram: &[u8]) -> u64
     ensures { Promise (DecodedCall.Known (Call.FetchPa va)) base ram.now core.old result
         ans.old ans.new ram.now core.new }
 {
@@ -33,7 +41,7 @@ pub fn fetch_pa(core: &mut Core, va: u64, ans: &mut u64, base: u64, ram: &[u8]) 
 }
 
 /// A load of 1, 2, 4 or 8 bytes.
-pub fn load(core: &mut Core, va: u64, size: u64, ans: &mut u64, base: u64, ram: &[u8]) -> u64
+pub fn load(core: &mut Core, va: u64, size: u64, ans: &mut Report, base: u64, ram: &[u8]) -> u64
     ensures { Promise (DecodedCall.Known (Call.Load va size)) base ram.now core.old result
         ans.old ans.new ram.now core.new }
 {
@@ -46,7 +54,7 @@ pub fn store(
     va: u64,
     size: u64,
     value: u64,
-    ans: &mut u64,
+    ans: &mut Report,
     base: u64,
     ram: &mut [u8],
 ) -> u64
@@ -57,7 +65,7 @@ pub fn store(
 }
 
 /// The instruction at `va`.
-pub fn fetch(core: &mut Core, va: u64, ans: &mut u64, base: u64, ram: &[u8]) -> u64
+pub fn fetch(core: &mut Core, va: u64, ans: &mut Report, base: u64, ram: &[u8]) -> u64
     ensures { Promise (DecodedCall.Known (Call.Fetch va)) base ram.now core.old result
         ans.old ans.new ram.now core.new }
 {

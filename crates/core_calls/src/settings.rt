@@ -1,4 +1,4 @@
-// What sets a register, the level, the mark or a general register, and abort entry: no RAM, and no word of answer.
+// What sets a register, the level, the mark or a general register, and abort entry: no RAM, and no report.
 ghost use Rattle.cpu.specs.declared.call.Call.TheVariants as Call;
 ghost use Rattle.call_words.specs.declared.op.DecodedCall.TheVariants as DecodedCall;
 ghost use Rattle.call_words.specs.Ops.{key_of, exception_at, abort_call, mark_call};

@@ -7,6 +7,7 @@ ghost use Rattle.call_words.specs.Ops.{abort_call, mark_call, call_of, translate
 ghost use Rattle.call_words.specs.Walk.{walk_code, walk_words};
 ghost use Rattle.core_calls.specs.Promise.{Promise, Setting, StepPromise, CensusPromise};
 
+use call_words::reply::Report;
 use core_calls::{inspect, memory, settings, step};
 use handle::Handle;
 
@@ -16,14 +17,14 @@ pub extern "C" fn a72_translate(
     handle: &mut Handle,
     va: u64,
     kind: u64,
-    ans: &mut u64,
+    answer: &mut Report,
     base: u64,
     ram: &[u8],
 ) -> u64
     ensures { Promise (translate_call (kind_of kind) va) base ram.now handle.old.core result
-        ans.old ans.new ram.now handle.new.core }
+        answer.old answer.new ram.now handle.new.core }
 {
-    memory::translate(handle.core(), va, kind, ans, base, ram)
+    memory::translate(handle.core(), va, kind, answer, base, ram)
 }
 
 /// Where a data read of `va` goes.
@@ -31,14 +32,14 @@ pub extern "C" fn a72_translate(
 pub extern "C" fn a72_data_pa(
     handle: &mut Handle,
     va: u64,
-    ans: &mut u64,
+    answer: &mut Report,
     base: u64,
     ram: &[u8],
 ) -> u64
     ensures { Promise (DecodedCall.Known (Call.DataPa va)) base ram.now handle.old.core result
-        ans.old ans.new ram.now handle.new.core }
+        answer.old answer.new ram.now handle.new.core }
 {
-    memory::data_pa(handle.core(), va, ans, base, ram)
+    memory::data_pa(handle.core(), va, answer, base, ram)
 }
 
 /// Where a fetch of `va` goes.
@@ -46,14 +47,14 @@ pub extern "C" fn a72_data_pa(
 pub extern "C" fn a72_fetch_pa(
     handle: &mut Handle,
     va: u64,
-    ans: &mut u64,
+    answer: &mut Report,
     base: u64,
     ram: &[u8],
 ) -> u64
     ensures { Promise (DecodedCall.Known (Call.FetchPa va)) base ram.now handle.old.core result
-        ans.old ans.new ram.now handle.new.core }
+        answer.old answer.new ram.now handle.new.core }
 {
-    memory::fetch_pa(handle.core(), va, ans, base, ram)
+    memory::fetch_pa(handle.core(), va, answer, base, ram)
 }
 
 /// A load of 1, 2, 4 or 8 bytes.
@@ -62,14 +63,14 @@ pub extern "C" fn a72_load(
     handle: &mut Handle,
     va: u64,
     size: u64,
-    ans: &mut u64,
+    answer: &mut Report,
     base: u64,
     ram: &[u8],
 ) -> u64
     ensures { Promise (DecodedCall.Known (Call.Load va size)) base ram.now handle.old.core result
-        ans.old ans.new ram.now handle.new.core }
+        answer.old answer.new ram.now handle.new.core }
 {
-    memory::load(handle.core(), va, size, ans, base, ram)
+    memory::load(handle.core(), va, size, answer, base, ram)
 }
 
 /// A store of the low 1, 2, 4 or 8 bytes of a value.
@@ -79,14 +80,14 @@ pub extern "C" fn a72_store(
     va: u64,
     size: u64,
     value: u64,
-    ans: &mut u64,
+    answer: &mut Report,
     base: u64,
     ram: &mut [u8],
 ) -> u64
     ensures { Promise (DecodedCall.Known (Call.Store va size value)) base ram.old handle.old.core result
-        ans.old ans.new ram.new handle.new.core }
+        answer.old answer.new ram.new handle.new.core }
 {
-    memory::store(handle.core(), va, size, value, ans, base, ram)
+    memory::store(handle.core(), va, size, value, answer, base, ram)
 }
 
 /// The instruction at `va`.
@@ -94,14 +95,14 @@ pub extern "C" fn a72_store(
 pub extern "C" fn a72_fetch(
     handle: &mut Handle,
     va: u64,
-    ans: &mut u64,
+    answer: &mut Report,
     base: u64,
     ram: &[u8],
 ) -> u64
     ensures { Promise (DecodedCall.Known (Call.Fetch va)) base ram.now handle.old.core result
-        ans.old ans.new ram.now handle.new.core }
+        answer.old answer.new ram.now handle.new.core }
 {
-    memory::fetch(handle.core(), va, ans, base, ram)
+    memory::fetch(handle.core(), va, answer, base, ram)
 }
 
 /// A system operation: SYS op1, CRn, CRm, op2 with the register rt.
@@ -113,14 +114,14 @@ pub extern "C" fn a72_system(
     crm: u64,
     op2: u64,
     rt: u64,
-    ans: &mut u64,
+    answer: &mut Report,
     base: u64,
     ram: &mut [u8],
 ) -> u64
     ensures { Promise (DecodedCall.Known (Call.System (encoding_of op1 crn crm op2 rt))) base ram.old
-        handle.old.core result ans.old ans.new ram.new handle.new.core }
+        handle.old.core result answer.old answer.new ram.new handle.new.core }
 {
-    step::system(handle.core(), op1, crn, crm, op2, rt, ans, base, ram)
+    step::system(handle.core(), op1, crn, crm, op2, rt, answer, base, ram)
 }
 
 /// A register write, by the register's key.
@@ -163,19 +164,20 @@ pub extern "C" fn a72_abort(handle: &mut Handle, exception: &[u64; 4]) -> u64
     settings::abort(handle.core(), exception)
 }
 
-/// The call that eight words name: 0, and its answer in four words; 64 where they name none.
+/// The call that eight words name: 0, and in five words its answer and the descriptors that it read; 64 where they name
+/// none.
 #[unsafe(no_mangle)]
 pub extern "C" fn a72_step(
     op: &[u64; 8],
     handle: &mut Handle,
     base: u64,
     ram: &mut [u8],
-    ans: &mut [u64; 4],
+    answer: &mut [u64; 5],
 ) -> u64
     ensures { StepPromise (call_of op.now) base ram.old handle.old.core result
-        ans.old ans.new ram.new handle.new.core }
+        answer.old answer.new ram.new handle.new.core }
 {
-    step::step(handle.core(), op, base, ram, ans)
+    step::step(handle.core(), op, base, ram, answer)
 }
 
 /// How many of so many 4 KiB pages, from the page of `first` on, end at each status, at each permission byte, and
@@ -195,14 +197,14 @@ pub extern "C" fn a72_census(
     inspect::census(handle.core(), first, pages, counts, base, ram)
 }
 
-/// One walk of an untagged address: 0 and the leaf, or 256 plus the fault's status; 64 for no regime, 2 for a window
-/// that passes 2^64.
+/// One walk of an untagged address: 0 and the leaf, or 256 plus the fault's status, and in either case how many
+/// descriptors it read; 64 for no regime, 2 for a window that passes 2^64, and no word is written.
 #[unsafe(no_mangle)]
 pub extern "C" fn a72_walk(
     words: &[u64; 6],
     number: u64,
     va: u64,
-    out: &mut [u64; 5],
+    out: &mut [u64; 6],
     base: u64,
     ram: &[u8],
 ) -> u64

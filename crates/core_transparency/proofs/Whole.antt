@@ -169,7 +169,7 @@ on call base ram c d e p = ap held p ∙ named-whole call c base ram e ∙ sym p
 
 pub made-is-whole : made_is_whole
 made-is-whole _ _ (fresh c e) = ap held e ∙ fresh_whole ∙ sym e
-made-is-whole _ _ (called call base ram c n old v ys d list m p) = on call base ram c d (made-is-whole c list m) p.core
+made-is-whole _ _ (called call base ram c n old new ys d list m p) = on call base ram c d (made-is-whole c list m) p.core
 made-is-whole _ _ (set call base ram c n d list m p) = on call base ram c d (made-is-whole c list m) (p.on base ram 0).core
 made-is-whole _ _ (stepped call base ram c n old v ys d list m p) = on call base ram c d (made-is-whole c list m) p.core
 made-is-whole _ _ (looked first pages base ram c n old counts list m p) = made-is-whole c list m

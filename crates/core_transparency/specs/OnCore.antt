@@ -15,6 +15,7 @@ use Rattle.transparency.specs.Replies.{bare_reply}
 use Rattle.transparency.specs.Beside.{core_after, bare_after}
 use Rattle.transparency.specs.Census.{bare_counts}
 use Rattle.call_words.specs.Replies.{code_by}
+use Rattle.call_words.specs.declared.reply.Report.{Report}
 use Rattle.core_calls.specs.Named.{call_core}
 use Rattle.core_calls.specs.Promise.{FaithfulNumber, FaithfulWords, Promise, Setting, StepPromise, CensusPromise}
 use Rattle.call_words.specs.declared.op.DecodedCall.{DecodedCall}
@@ -32,8 +33,8 @@ added Unknown base ram = []
 -- the core after a list of calls
 pub data Made : Core → List (Lent real machine) → Type 0 where
   fresh : (c : Core) → c ≡ fresh_core → Made c []
-  called : (call : DecodedCall) (base : ℕ) (ram : List ℕ) (c : Core) (n old v : ℕ) (ys : List ℕ) (d : Core) (list : List (Lent real machine))
-      → Made c list → Promise call base ram c n old v ys d → Made d (list ++ added call base ram)
+  called : (call : DecodedCall) (base : ℕ) (ram : List ℕ) (c : Core) (n : ℕ) (old new : Report) (ys : List ℕ) (d : Core) (list : List (Lent real machine))
+      → Made c list → Promise call base ram c n old new ys d → Made d (list ++ added call base ram)
   set : (call : DecodedCall) (base : ℕ) (ram : List ℕ) (c : Core) (n : ℕ) (d : Core) (list : List (Lent real machine))
       → Made c list → Setting call c n d → Made d (list ++ added call base ram)
   stepped : (call : DecodedCall) (base : ℕ) (ram : List ℕ) (c : Core) (n : ℕ) (old v ys : List ℕ) (d : Core) (list : List (Lent real machine))
@@ -65,7 +66,7 @@ made_is_core = (c : Core) (list : List (Lent real machine)) → Made c list → 
 
 pub made-core : made_is_core
 made-core _ _ (fresh c e) = e
-made-core _ _ (called call base ram c n old v ys d list m p) = grown call base ram c d list (made-core c list m) p.core
+made-core _ _ (called call base ram c n old new ys d list m p) = grown call base ram c d list (made-core c list m) p.core
 made-core _ _ (set call base ram c n d list m p) = grown call base ram c d list (made-core c list m) (p.on base ram 0).core
 made-core _ _ (stepped call base ram c n old v ys d list m p) = grown call base ram c d list (made-core c list m) p.core
 made-core _ _ (looked first pages base ram c n old counts list m p) =
@@ -76,11 +77,11 @@ made-core _ _ (looked first pages base ram c n old counts list m p) =
 abbrev pub faithful_on_core : Type 0
 faithful_on_core =
     (c : Core) (list : List (Lent real machine)) → Made c list
-    → (x : Call) (base : ℕ) (ram : List ℕ) (n old v : ℕ) (ys : List ℕ) (d : Core) → Promise (Known x) base ram c n old v ys d
-    → FaithfulNumber list (window_of base ram) x n old v ys
+    → (x : Call) (base : ℕ) (ram : List ℕ) (n : ℕ) (old new : Report) (ys : List ℕ) (d : Core) → Promise (Known x) base ram c n old new ys d
+    → FaithfulNumber list (window_of base ram) x n old.value new.value ys
 
 pub faithful-on-core : faithful_on_core
-faithful-on-core c list m x base ram n old v ys d p = p.faithful list (made-core c list m)
+faithful-on-core c list m x base ram n old new ys d p = p.faithful list (made-core c list m)
 
 -- so does a step, by the words of its call
 abbrev pub faithful_step_on_core : Type 0

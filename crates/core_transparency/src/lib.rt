@@ -34,7 +34,7 @@ pub fn run(
     last: &[u64; 8],
     base: u64,
     ram: &mut [u8],
-    ans: &mut [u64; 4],
+    ans: &mut [u64; 5],
 ) -> u64
     ensures { RunPromise (call_of last.now)
         (reached (length ops.now / 8) ops.now base ram.old)

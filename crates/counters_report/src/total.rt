@@ -1,5 +1,5 @@
 // Sums over the levels, EL0 to EL3.
-ghost use Rattle.std.specs.Prelude.{◌≡◌, ◌+◌, ◌%◌, ◌^◌, sum_by};
+ghost use Rattle.std.specs.Prelude.{◌≡◌, ◌+◌, ◌%◌, ◌^◌, sum, sum_by};
 
 use tlb::count::Tally;
 
@@ -7,6 +7,14 @@ fn of_four(a: u64, b: u64, c: u64, d: u64) -> u64
     ensures { result ≡ (a + b + c + d) % 2 ^ 64 }
 {
     a.wrapping_add(b).wrapping_add(c).wrapping_add(d)
+}
+
+/// The sum of the levels' counts, wrapped at 2^64.
+pub fn of_counts(counts: &[u64; 4]) -> u64
+    ensures { result ≡ sum counts.now % 2 ^ 64 }
+{
+    let [el0, el1, el2, el3] = *counts;
+    of_four(el0, el1, el2, el3)
 }
 
 /// The hits and the walks of all levels, each wrapped at 2^64 as the counters are.

@@ -30,7 +30,7 @@ module _ (c : Core) (base : ℕ) (ram : List ℕ) (a : ℕ) (even : a % 8 ≡ 0)
   abbrev answer_for : Answer
   answer_for = (translate_of c (word_at base ram 8) a Write).answer
 
-  one-page-only : (on : Bool) → crosses on a 8 ≡ false
+  pub one-page-only : (on : Bool) → crosses on a 8 ≡ false
   one-page-only on = go on
     where
       long : 8 ≤ in_page a
@@ -144,7 +144,7 @@ some_left n h = pos_of_ne-zero h
 pub fewer-left : (n t : ℕ) → (n ≢ 0) → n ≡ t → n - 1 < t
 fewer-left n t h e = let k = some_left n h in omega arith
 
-more : (n : ℕ) → (n ≢ 0) → n ≡ suc (n - 1)
+pub more : (n : ℕ) → (n ≢ 0) → n ≡ suc (n - 1)
 more n h = let k = some_left n h in omega arith
 
 -- no store, one that stops, and one that goes on

@@ -177,7 +177,7 @@ module _ (c : Core) (base : ℕ) (ram : List ℕ) (va : ℕ) where
 -- a store to a page whose frame the cache gives
 module _ (c d : Core) (base : ℕ) (ram : List ℕ) (va pa a : ℕ) (ew : d.privilege ≡ c.privilege) (ec : d.control ≡ c.control)
     (g : Gives (bank_now c) c.privilege Write va pa d.tlb) (same : va / 4096 ≡ a / 4096) (even : a % 8 ≡ 0) where
-  again : ((translate_of d (word_at base ram 8) a Write).answer ≡ Ok (pa / 4096 * 4096 + a % 4096))
+  pub again : ((translate_of d (word_at base ram 8) a Write).answer ≡ Ok (pa / 4096 * 4096 + a % 4096))
       × Gives (bank_now c) c.privilege Write va pa (write_of d base ram a 8).core.tlb
   unfolding translate_of stepped_now
   again =
@@ -195,7 +195,7 @@ module _ (c : Core) (base : ℕ) (ram : List ℕ) (va pa : ℕ) (well : WellForm
   unfolding translate_of stepped_now
   offset = step-offset (bank_now c) c.privilege (word_at base ram 8) Write c.tlb well va pa first
 
-  begins : Gives (bank_now c) c.privilege Write va pa (write_of c base ram va 8).core.tlb
+  pub begins : Gives (bank_now c) c.privilege Write va pa (write_of c base ram va 8).core.tlb
   unfolding translate_of stepped_now
   begins = rw (one-tlb c base ram va (omega arith)) (step_gives (bank_now c) c.privilege Write (word_at base ram 8) c.tlb va well pa first)
 

@@ -7,6 +7,7 @@ use Rattle.exception.specs.declared.kind.Stop.{Stop}
 use Rattle.cpu.specs.Memory.{write_of, ram_after_write}
 use Rattle.cpu.specs.declared.Core.{Core}
 use Rattle.cpu.specs.System.{zero_of, zero_ram}
+use Rattle.cpu.proofs.ZeroWork.{none-work, goes-work}
 use Rattle.cpu.proofs.ZeroLaws.{zero-none, zero-stops, zero-goes, some_left, fewer-left}
 
 module _ (n : ℕ) (c : Core) (base : ℕ) (ram : List ℕ) (va : ℕ) where
@@ -34,4 +35,4 @@ module _ (n : ℕ) (c : Core) (base : ℕ) (ram : List ℕ) (va : ℕ) where
           → ys ≡ zero_ram n c base ram va
       goes-ram ys next e en el = el ∙ (λ i. zero_ram (n - 1) (es i).core base (er i) (en i)) ∙ (zero-goes n c base ram va h (goes e)).1
 
-pub ruleset zero_steps = (none_is, none-ram, goes-is, goes-ram, some_left, fewer-left)
+pub ruleset zero_steps = (none_is, none-ram, none-work, goes-is, goes-ram, goes-work, some_left, fewer-left)

@@ -35,8 +35,12 @@ pub mod SystemCases
 pub mod ZeroMeaning
 -- The table of docs/SCOPE.md, "Where each answer is given": the checks, then the operations.
 pub mod Step
+-- What it reads of the tables.
+pub mod Work
+pub mod Reads
 pub mod Inspect
 pub mod Cases
+pub mod ReadCases
 pub mod EveryCallEnds
 pub mod Setters
 -- Of two pages the lowest failing byte decides.

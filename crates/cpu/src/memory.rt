@@ -1,4 +1,4 @@
-// The core's operations on memory.
+// The core's operations on memory. The descriptors that an operation reads are added to its `work`.
 ghost use Rattle.std.specs.Prelude.{◌≡◌, length};
 ghost use Rattle.word.specs.Ram.{word_at, bytes_in};
 ghost use Rattle.exception.specs.Abort.{insn_abort_at};
@@ -8,6 +8,8 @@ ghost use Rattle.cpu.specs.Ends.{external, data_abort, external_abort, failed_ac
 ghost use Rattle.cpu.specs.Memory.{translate_of, past_hint_of, translate_fetch_of, translate_access_of};
 ghost use Rattle.cpu.specs.Hand.{HandedNow, KeptNow, NeedsWalkNow};
 ghost use Rattle.cpu.specs.Memory.{read_of, write_of, ram_after_write, fetch_of, fetch_pa_of, data_pa_of};
+ghost use Rattle.cpu.specs.Work.{past_hint_work, translate_work, fetch_work, access_work, read_work, write_work};
+ghost use Rattle.tlb.specs.declared.access.Kind.TheVariants.{Read};
 
 use crate::place::{FaultAt, Outside, Pages, Place};
 use crate::{Core, bytes, place};
@@ -16,6 +18,7 @@ use fault::Fault;
 use sysreg::regs::Regime;
 use tlb::access::{Kind, Request};
 use tlb::hint::FetchHint;
+use tlb::work::Work;
 use walk::fsc::FSC_EXTERNAL;
 use walk::regime::Bank;
 use word::ram::Width;
@@ -68,49 +71,84 @@ impl Core {
 
     /// A translation by a walk: where one is needed, the translation.
     #[inline(always)]
-    #[tactic(auto, unfolding(crate::specs::Memory::past_hint_of, crate::specs::Translations::past_hint_step, crate::specs::Core::after_access))]
-    pub fn by_walk(&mut self, base: u64, ram: &[u8], va: u64, kind: Kind) -> Result<u64, Fault>
-        ensures { NeedsWalkNow self.old (word_at base ram.now 8) va kind
+    #[tactic(auto, unfolding(crate::specs::Memory::past_hint_of, crate::specs::Translations::past_hint_step, crate::specs::Core::after_access, crate::specs::Work::past_hint_work))]
+    pub fn by_walk(
+        &mut self,
+        base: u64,
+        ram: &[u8],
+        va: u64,
+        kind: Kind,
+        work: &mut Work,
+    ) -> Result<u64, Fault>
+        ensures core { NeedsWalkNow self.old (word_at base ram.now 8) va kind
             → record { core = self.new; answer = result } ≡ past_hint_of self.old (word_at base ram.now 8) va kind }
+        ensures work { NeedsWalkNow self.old (word_at base ram.now 8) va kind
+            → work.new ≡ past_hint_work self.old (word_at base ram.now 8) va kind work.old }
     {
         let a = self.request(va, kind);
-        self.tlb.by_walk(a, base, ram)
+        self.tlb.by_walk(a, base, ram, work)
     }
 
     // A translation that no hint serves. Out of line, and reads the registers itself, so that a hint pays nothing for
     // it.
     #[inline(never)]
-    fn translate_slow(&mut self, base: u64, ram: &[u8], va: u64, kind: Kind) -> Result<u64, Fault>
-        ensures { record { core = self.new; answer = result } ≡ past_hint_of self.old (word_at base ram.now 8) va kind }
+    #[tactic(auto, unfolding(crate::specs::Work::past_hint_work))]
+    fn translate_slow(
+        &mut self,
+        base: u64,
+        ram: &[u8],
+        va: u64,
+        kind: Kind,
+        work: &mut Work,
+    ) -> Result<u64, Fault>
+        ensures core { record { core = self.new; answer = result }
+            ≡ past_hint_of self.old (word_at base ram.now 8) va kind }
+        ensures work { work.new ≡ past_hint_work self.old (word_at base ram.now 8) va kind work.old }
     {
         match self.at_hand(base, ram, va, kind) {
             Some(answer) => answer,
-            None => self.by_walk(base, ram, va, kind),
+            None => self.by_walk(base, ram, va, kind, work),
         }
     }
 
     /// Where an access of the kind to va goes: the data hint first, which is asked once. The fetch hint is neither used
     /// nor set.
-    #[tactic(auto, unfolding(crate::specs::Memory::translate_of, crate::specs::Memory::stepped_now, crate::specs::Memory::past_hint_of, crate::specs::Translations::translate_in, crate::specs::Translations::past_hint_step, crate::specs::Core::after_access))]
-    pub fn translate(&mut self, base: u64, ram: &[u8], va: u64, kind: Kind) -> Result<u64, Fault>
-        ensures { record { core = self.new; answer = result } ≡ translate_of self.old (word_at base ram.now 8) va kind }
+    #[tactic(auto, unfolding(crate::specs::Memory::translate_of, crate::specs::Memory::stepped_now, crate::specs::Memory::past_hint_of, crate::specs::Translations::translate_in, crate::specs::Translations::past_hint_step, crate::specs::Core::after_access, crate::specs::Work::translate_work, crate::specs::Work::past_hint_work))]
+    pub fn translate(
+        &mut self,
+        base: u64,
+        ram: &[u8],
+        va: u64,
+        kind: Kind,
+        work: &mut Work,
+    ) -> Result<u64, Fault>
+        ensures core { record { core = self.new; answer = result }
+            ≡ translate_of self.old (word_at base ram.now 8) va kind }
+        ensures work { work.new ≡ translate_work self.old (word_at base ram.now 8) va kind work.old }
     {
         match self.tlb.by_hint(self.privilege, va, kind) {
             Some(pa) => Ok(pa),
-            None => self.translate_slow(base, ram, va, kind),
+            None => self.translate_slow(base, ram, va, kind, work),
         }
     }
 
     /// The translation that a fetch begins with: by the fetch hint, and else one that leaves it.
-    #[tactic(auto, unfolding(crate::specs::Memory::translate_fetch_of, crate::specs::Memory::fetch_stepped_now, crate::specs::Memory::past_hint_of, crate::specs::Translations::past_hint_step, crate::specs::Translations::translate_fetch_in, crate::specs::Core::after_access))]
-    pub fn translate_fetch(&mut self, base: u64, ram: &[u8], va: u64) -> Result<u64, Fault>
-        ensures { record { core = self.new; answer = result }
+    #[tactic(auto, unfolding(crate::specs::Memory::translate_fetch_of, crate::specs::Memory::fetch_stepped_now, crate::specs::Memory::past_hint_of, crate::specs::Translations::past_hint_step, crate::specs::Translations::translate_fetch_in, crate::specs::Core::after_access, crate::specs::Work::fetch_work, crate::specs::Work::past_hint_work))]
+    pub fn translate_fetch(
+        &mut self,
+        base: u64,
+        ram: &[u8],
+        va: u64,
+        work: &mut Work,
+    ) -> Result<u64, Fault>
+        ensures core { record { core = self.new; answer = result }
             ≡ translate_fetch_of self.old (word_at base ram.now 8) va }
+        ensures work { work.new ≡ fetch_work self.old (word_at base ram.now 8) va work.old }
     {
         if let Some(pa) = self.tlb.by_fetch_hint(self.privilege.level, va) {
             return Ok(pa);
         }
-        let pa = self.translate_slow(base, ram, va, Kind::Fetch)?;
+        let pa = self.translate_slow(base, ram, va, Kind::Fetch, work)?;
         self.tlb.fetch = Some(FetchHint::new(va, self.privilege.level, pa));
         Ok(pa)
     }
@@ -118,7 +156,7 @@ impl Core {
     /// The translations of an access, before a byte moves: one, or two where it crosses a page. The first one's effects
     /// remain where the second faults.
     #[inline(always)]
-    #[tactic(auto, unfolding(crate::specs::Memory::translate_access_of, crate::specs::Memory::located_now, crate::specs::Translations::located_of, crate::specs::Memory::translate_of, crate::specs::Memory::stepped_now, crate::specs::Core::after_access))]
+    #[tactic(auto, unfolding(crate::specs::Memory::translate_access_of, crate::specs::Memory::located_now, crate::specs::Translations::located_of, crate::specs::Memory::translate_of, crate::specs::Memory::stepped_now, crate::specs::Core::after_access, crate::specs::Work::access_work, crate::specs::Work::translate_work), using(crate::proofs::AccessWork::first_work))]
     pub fn translate_access(
         &mut self,
         base: u64,
@@ -126,12 +164,15 @@ impl Core {
         va: u64,
         width: Width,
         kind: Kind,
+        work: &mut Work,
     ) -> Result<Place, FaultAt>
-        ensures { record { core = self.new; placed = result }
+        ensures core { record { core = self.new; placed = result }
             ≡ translate_access_of self.old (word_at base ram.now 8) va (bytes_in width) kind }
+        ensures work { work.new
+            ≡ access_work self.old (word_at base ram.now 8) va (bytes_in width) kind work.old }
     {
         let on = self.bank().stage1_on(self.regime());
-        let first = self.translate(base, ram, va, kind);
+        let first = self.translate(base, ram, va, kind, work);
         let pa = first.map_err(|fault| FaultAt {
             addr: va,
             fault,
@@ -141,7 +182,7 @@ impl Core {
             return Ok(Place::Whole(pa));
         }
         let next = place::next_page(va);
-        let second = self.translate(base, ram, next, kind);
+        let second = self.translate(base, ram, next, kind, work);
         let pa2 = second.map_err(|fault| FaultAt {
             addr: next,
             fault,
@@ -155,10 +196,19 @@ impl Core {
     /// have succeeded, also where the load then aborts. An error is a data abort of a read: a fault of its page, or an
     /// external abort at the lowest byte outside RAM, whose physical address `abort_pa` then is.
     #[tactic(auto, unfolding(crate::specs::Memory::read_of, crate::specs::Memory::translate_access_of, crate::specs::Core::after_access, crate::specs::Ends::load_end))]
-    pub fn read(&mut self, base: u64, ram: &[u8], va: u64, width: Width) -> Result<u64, Stop>
-        ensures { record { core = self.new; answer = result } ≡ read_of self.old base ram.now va (bytes_in width) }
+    pub fn read(
+        &mut self,
+        base: u64,
+        ram: &[u8],
+        va: u64,
+        width: Width,
+        work: &mut Work,
+    ) -> Result<u64, Stop>
+        ensures core { record { core = self.new; answer = result }
+            ≡ read_of self.old base ram.now va (bytes_in width) }
+        ensures work { work.new ≡ read_work self.old base ram.now va (bytes_in width) work.old }
     {
-        let place = match self.translate_access(base, ram, va, width, Kind::Read) {
+        let place = match self.translate_access(base, ram, va, width, Kind::Read, work) {
             Ok(place) => place,
             Err(at) => return Err(self.failed(base, ram, va, at, false)),
         };
@@ -179,12 +229,14 @@ impl Core {
         va: u64,
         width: Width,
         value: u64,
+        work: &mut Work,
     ) -> Result<(), Stop>
         ensures core { record { core = self.new; answer = result }
             ≡ write_of self.old base ram.old va (bytes_in width) }
         ensures ram { ram.new ≡ ram_after_write self.old base ram.old va (bytes_in width) value }
+        ensures work { work.new ≡ write_work self.old base ram.old va (bytes_in width) work.old }
     {
-        let place = match self.translate_access(base, ram, va, width, Kind::Write) {
+        let place = match self.translate_access(base, ram, va, width, Kind::Write, work) {
             Ok(place) => place,
             Err(at) => return Err(self.failed(base, ram, va, at, true)),
         };
@@ -218,10 +270,17 @@ impl Core {
 
     /// The instruction at va, by the fetch hint first: four bytes, never split. An error is an instruction abort at va.
     #[tactic(auto, unfolding(crate::specs::Memory::fetch_of, crate::specs::Memory::translate_fetch_of, crate::specs::Core::after_access, crate::specs::Ends::fetch_end))]
-    pub fn fetch(&mut self, base: u64, ram: &[u8], va: u64) -> Result<u32, Exception>
-        ensures { record { core = self.new; answer = result } ≡ fetch_of self.old base ram.now va }
+    pub fn fetch(
+        &mut self,
+        base: u64,
+        ram: &[u8],
+        va: u64,
+        work: &mut Work,
+    ) -> Result<u32, Exception>
+        ensures core { record { core = self.new; answer = result } ≡ fetch_of self.old base ram.now va }
+        ensures work { work.new ≡ fetch_work self.old (word_at base ram.now 8) va work.old }
     {
-        let at = self.translate_fetch(base, ram, va);
+        let at = self.translate_fetch(base, ram, va, work);
         let pa = at.map_err(|fault| Exception::InsnAbort(InsnAbort { addr: va, fault }))?;
         match bytes::insn_at(base, ram, pa) {
             Some(insn) => Ok(insn),
@@ -243,17 +302,19 @@ impl Core {
 
     /// Where a fetch of va goes, by the same hint, which a new page refreshes.
     #[tactic(auto, unfolding(crate::specs::Memory::fetch_pa_of, crate::specs::Memory::translate_fetch_of))]
-    pub fn fetch_pa(&mut self, base: u64, ram: &[u8], va: u64) -> Option<u64>
-        ensures { record { core = self.new; answer = result } ≡ fetch_pa_of self.old (word_at base ram.now 8) va }
+    pub fn fetch_pa(&mut self, base: u64, ram: &[u8], va: u64, work: &mut Work) -> Option<u64>
+        ensures core { record { core = self.new; answer = result } ≡ fetch_pa_of self.old (word_at base ram.now 8) va }
+        ensures work { work.new ≡ fetch_work self.old (word_at base ram.now 8) va work.old }
     {
-        self.translate_fetch(base, ram, va).ok()
+        self.translate_fetch(base, ram, va, work).ok()
     }
 
     /// Where a data read of va goes.
     #[tactic(auto, unfolding(crate::specs::Memory::data_pa_of, crate::specs::Memory::translate_of))]
-    pub fn data_pa(&mut self, base: u64, ram: &[u8], va: u64) -> Option<u64>
-        ensures { record { core = self.new; answer = result } ≡ data_pa_of self.old (word_at base ram.now 8) va }
+    pub fn data_pa(&mut self, base: u64, ram: &[u8], va: u64, work: &mut Work) -> Option<u64>
+        ensures core { record { core = self.new; answer = result } ≡ data_pa_of self.old (word_at base ram.now 8) va }
+        ensures work { work.new ≡ translate_work self.old (word_at base ram.now 8) va Read work.old }
     {
-        self.translate(base, ram, va, Kind::Read).ok()
+        self.translate(base, ram, va, Kind::Read, work).ok()
     }
 }

@@ -5,7 +5,7 @@ use native.Mathlib.Nat.{sub-zero}
 use Rattle.word.specs.Ram.{little_endian, word_at, within}
 use Rattle.word.proofs.RamLaws.{le_join}
 use Rattle.digest.specs.Fold.{joined, digest_from, digest_of, gathered}
-use Rattle.digest.specs.Window.{whole_word, window_words}
+use Rattle.digest.specs.Window.{lane_word, lane, window_words}
 use Rattle.digest.proofs.Folding.{digest-append}
 
 -- a word of one byte
@@ -37,6 +37,11 @@ pub taken : (h w x k : ℕ) → k ≡ joined h w → w ≡ x → k ≡ digest_fr
 unfolding digest_from
 taken h w x k p q = p ∙ ap (joined h) q
 
+-- word i of a lane taken in
+pub lane-taken : (ram : List ℕ) (k i at h w x : ℕ) → at ≡ i * 32 + k * 8 → w ≡ little_endian ram 8 at → x ≡ joined h w
+    → x ≡ digest_from h (lane_word ram k i)
+lane-taken ram k i at h w x place r t = taken h w (little_endian ram 8 (i * 32 + k * 8)) x t (r ∙ ap (little_endian ram 8) place)
+
 -- the last of one thing more
 pub last : (f : ℕ → List ℕ) (m i h : ℕ) → digest_from h (gathered f (suc m) i) ≡ digest_from (digest_from h (gathered f m i)) (f (i + m))
 unfolding gathered digest_from
@@ -48,27 +53,26 @@ last f (suc m) i h =
     ∙ (ap (λ (d : ℕ). digest_from d (f (i + 1 + m))) (sym (digest-append h (f i) (gathered f m (i + 1))))
     ∙ ap (λ (j : ℕ). digest_from (digest_from h (f i ++ gathered f m (i + 1))) (f j)) (omega arith)))
 
--- the bytes are whole words
-pub all_whole : (ram : List ℕ) (n s h : ℕ) → n ≡ length ram / 8 → length ram ≡ n * 8 → h ≡ digest_from s (gathered (whole_word ram) (length ram / 8) 0) → h
-    ≡ digest_from s (gathered (whole_word ram) ((length ram + 7) / 8) 0)
-all_whole ram n s h p q e =
-    let m : length ram / 8 ≡ (length ram + 7) / 8 = omega arith in
-    e ∙ ap (λ (k : ℕ). digest_from s (gathered (whole_word ram) k 0)) m
+-- a lane of whole words
+pub all_whole : (ram : List ℕ) (k n h : ℕ) → n ≡ length ram / 32 * 32 → length ram ≡ n
+    → h ≡ digest_of (gathered (lane_word ram k) (length ram / 32) 0) → h ≡ lane ram k
+all_whole ram k n h p q e =
+    let m : length ram / 32 ≡ (length ram + 31) / 32 = omega arith in
+    e ∙ ap (λ (j : ℕ). digest_of (gathered (lane_word ram k) j 0)) m
 
--- the bytes are whole words and a part of one
-pub and-part : (ram : List ℕ) (n s h w k : ℕ) → n ≡ length ram / 8 → (length ram ≡ n * 8 → ⊥) → h ≡ digest_from s (gathered (whole_word ram) (length ram / 8) 0)
-    → w ≡ little_endian ram 8 (n * 8) → k ≡ joined h w → k ≡ digest_from s (gathered (whole_word ram) ((length ram + 7) / 8) 0)
-and-part ram n s h w k p q e r t =
-    let m : suc (length ram / 8) ≡ (length ram + 7) / 8 = omega arith in
-    let i : n ≡ 0 + length ram / 8 = omega arith in
-    taken h w (little_endian ram 8 (n * 8)) k t r
-    ∙ (ap (λ (d : ℕ). digest_from d (whole_word ram n)) e
-    ∙ (ap (λ (j : ℕ). digest_from (digest_from s (gathered (whole_word ram) (length ram / 8) 0)) (whole_word ram j)) i
-    ∙ (sym (last (whole_word ram) (length ram / 8) 0 s) ∙ ap (λ (j : ℕ). digest_from s (gathered (whole_word ram) j 0)) m)))
+-- a lane with a word more
+pub and_part : (ram : List ℕ) (k n at h w x : ℕ) → n ≡ length ram / 32 * 32 → (length ram ≡ n → ⊥)
+    → h ≡ digest_of (gathered (lane_word ram k) (length ram / 32) 0) → at ≡ n + k * 8 → w ≡ little_endian ram 8 at → x ≡ joined h w → x ≡ lane ram k
+and_part ram k n at h w x p q e place r t =
+    let m : suc (length ram / 32) ≡ (length ram + 31) / 32 = omega arith in
+    lane-taken ram k (0 + length ram / 32) at h w x (omega arith) r t
+    ∙ (ap (λ (d : ℕ). digest_from d (lane_word ram k (0 + length ram / 32))) e
+    ∙ (sym (last (lane_word ram k) (length ram / 32) 0 _) ∙ ap (λ (j : ℕ). digest_of (gathered (lane_word ram k) j 0)) m))
 
--- base, length and words
-pub headed : (base : ℕ) (ram : List ℕ) (x y r : ℕ) → x ≡ joined 0x9E3779B97F4A7C15 base → y ≡ joined x (length ram) → r
-    ≡ digest_from y (gathered (whole_word ram) ((length ram + 7) / 8) 0) → r ≡ digest_of (window_words base ram)
+-- base, length and lanes
+pub headed : (base : ℕ) (ram : List ℕ) (x y a b c d p q r t : ℕ) → x ≡ joined 0x9E3779B97F4A7C15 base → y ≡ joined x (length ram)
+    → a ≡ lane ram 0 → b ≡ lane ram 1 → c ≡ lane ram 2 → d ≡ lane ram 3 → p ≡ joined y a → q ≡ joined p b → r ≡ joined q c → t ≡ joined r d
+    → t ≡ digest_of (window_words base ram)
 unfolding digest_from
-headed base ram x y r p q e =
-    e ∙ ap (λ (d : ℕ). digest_from d (gathered (whole_word ram) ((length ram + 7) / 8) 0)) (q ∙ ap (λ (v : ℕ). joined v (length ram)) p)
+headed base ram x y a b c d p q r t e f ea eb ec ed ep eq er et =
+    et ∙ rw (er, eq, ep, f, e, ea, eb, ec, ed)

@@ -6,6 +6,7 @@ pub mod Right
 pub mod ModelLaws
 pub mod Theorem
 pub mod Tallies
+pub mod Works
 pub mod Fresh
 pub mod Judgement
 pub mod StepByStep

@@ -29,7 +29,7 @@ module _ (w : World) (laws : Laws w) where
     leaf-fits : (k : Kind) (va : ℕ) → LeafLevel (access_of w c m k va).walk
     leaf-fits k va leaf e = laws.leaf-level c.regs m (regime_now w c) (untag_now w c va) leaf e
 
-    ask-follows : (a : Ask) (t : Tlb) → WellFormed t → Follows (record { answer = answer_of w c m a t; after = tlb_ask w c m a t }) (model_ask w c m a (live t))
+    pub ask-follows : (a : Ask) (t : Tlb) → WellFormed t → Follows (record { answer = answer_of w c m a t; after = tlb_ask w c m a t }) (model_ask w c m a (live t))
     ask-follows (translates k va) t s = translation-follows (access_of w c m k va) t s (leaf-fits k va) low
     ask-follows (fetches va) t s = fetch-follows (access_of w c m Fetch va) t s (leaf-fits Fetch va) low
 
@@ -114,7 +114,7 @@ module _ (w : World) (laws : Laws w) where
 
   -- EVENTS
 
-  event-stands : (x : Event w) (c : Plain w) {t : Tlb} {u : Model} → c.privilege.level ≤ 3 → StandsFor t u
+  pub event-stands : (x : Event w) (c : Plain w) {t : Tlb} {u : Model} → c.privilege.level ≤ 3 → StandsFor t u
       → StandsFor (tlb_event w x c t) (model_event w x c u)
   event-stands x c {t} low r = subst (λ (u : Model). StandsFor (tlb_event w x c t) (model_event w x c u)) r.is (go x)
     where

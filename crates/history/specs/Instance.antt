@@ -1,8 +1,9 @@
 -- The real registers and walk as a `World`.
-use Rattle.std.specs.Prelude.{false}
+use Rattle.std.specs.Prelude.{false, length}
 use Rattle.sysreg.specs.Regs.{fresh_control}
 use Rattle.sysreg.specs.Shape.{same_shape, asid_of}
 use Rattle.sysreg.specs.declared.regs.Control.{Control}
+use Rattle.walk.specs.Fetches.{fetches_of}
 use Rattle.walk.specs.Regime.{bank_of, stage1_on}
 use Rattle.walk.specs.Tag.{untagged}
 use Rattle.walk.specs.Walk.{walk_of}
@@ -17,6 +18,7 @@ real =
       on = λ c r. stage1_on (bank_of c r) r;
       untag = λ c r va. untagged (bank_of c r).tcr r va;
       walk = λ c m r va. walk_of (bank_of c r) r va (memory_of m);
+      reads = λ c m r va. length (fetches_of (bank_of c r) r va (memory_of m));
       asid = asid_of;
       same-shape = same_shape;
     }

@@ -16,6 +16,7 @@ use Rattle.walk.specs.Answers.{Walked}
 --   on          stage 1 is on in the regime
 --   untag       the address without its tag
 --   walk        the walk of an untagged address
+--   reads       how many descriptors that walk fetches: no answer depends on it, and no law speaks of it
 --   asid        the ASID in force
 --   same-shape  `shaping` is the same: a register write that changes it flushes
 pub record World : Type 1 where
@@ -24,6 +25,7 @@ pub record World : Type 1 where
   pub on : Regs → Regime → Bool
   pub untag : Regs → Regime → ℕ → ℕ
   pub walk : Regs → Ram → Regime → ℕ → Walked
+  pub reads : Regs → Ram → Regime → ℕ → ℕ
   pub asid : Regs → ℕ
   pub same-shape : Regs → Regs → Bool
 
@@ -102,6 +104,7 @@ module _ (w : World) where
         regime = regime_now c;
         untagged = untag_now c va;
         walk = w.walk c.regs m (regime_now c) (untag_now c va);
+        reads = w.reads c.regs m (regime_now c) (untag_now c va);
       }
 
 -- LAWS

@@ -1,16 +1,20 @@
--- A translation that its hint serves, or that no hint serves, on plain values.
+-- A translation that its hint serves, or that no hint serves, and what it reads, on plain values.
 use Rattle.std.specs.Prelude.{if◌then◌else◌, ◌≡◌, Bool, true, false, ℕ, Option, Some, None, Ok}
 use Rattle.std.proofs.Common.{refl, sym, ap, ◌∙◌, subst}
 use Rattle.tlb.specs.Answers.{Answer}
 use Rattle.tlb.specs.Translate.{hint_in}
 use Rattle.tlb.specs.declared.{access.Kind.Kind}
 use Rattle.cpu.specs.Core.{after_access}
-use Rattle.cpu.specs.Hand.{NeedsWalkNow}
+use Rattle.cpu.specs.Hand.{HandedNow, NeedsWalkNow}
 use Rattle.cpu.specs.Memory.{stepped_now, translate_of, past_hint_of}
 use Rattle.cpu.specs.Translations.{translate_in, past_hint_step}
 use Rattle.cpu.specs.declared.Core.{Core}
 use Rattle.cpu.specs.declared.call.Reply.{Reply}
-use Rattle.call_words.specs.Replies.{code_by, value_by}
+use Rattle.cpu.specs.Work.{past_hint_work, translate_work}
+use Rattle.tlb.specs.Work.{no_work}
+use Rattle.tlb.specs.declared.work.Work.{Work}
+use Rattle.call_words.specs.Replies.{code_by, value_by, reads_by}
+use Rattle.call_words.specs.declared.reply.Report.{Report}
 use Rattle.cpu.specs.Step.{Stepped}
 use Rattle.quick.specs.Says.{Tells, asked_reply, asked_run}
 
@@ -27,38 +31,73 @@ pub chosen : (b : Bool) (x : Option ℕ) (pa : ℕ) → (if b then x else None) 
 chosen true x pa e = (refl, e)
 chosen false x pa e = absurd (subst is_at (sym e) tt)
 
+-- A TRANSLATION, the core d that it leaves, its answer, and what it read
+
+module _ (c : Core) (memory : ℕ → Option ℕ) (va : ℕ) (kind : Kind) (d : Core) (a : Answer) (k : Work) where
+  pub record Moved : Type 0 where
+    pub moved : record { core = d; answer = a } ≡ translate_of c memory va kind
+    pub read : k ≡ translate_work c memory va kind no_work
+
+  -- one that no hint serves
+  pub record Past : Type 0 where
+    pub moved : record { core = d; answer = a } ≡ past_hint_of c memory va kind
+    pub read : k ≡ past_hint_work c memory va kind no_work
+
+  -- at hand
+  pub by-hand : HandedNow c memory va kind (Some a) d → k ≡ no_work → Past
+  unfolding past_hint_work
+  by-hand h e = record { moved = h.0; read = e ∙ rw h.1 refl }
+
+  -- by a walk
+  pub by-walk : (w : Work) → w ≡ no_work → (NeedsWalkNow c memory va kind → record { core = d; answer = a } ≡ past_hint_of c memory va kind)
+      → (NeedsWalkNow c memory va kind → k ≡ past_hint_work c memory va kind w) → NeedsWalkNow c memory va kind → Past
+  by-walk w e f r needs = record { moved = f needs; read = r needs ∙ ap (past_hint_work c memory va kind) e }
+
+  -- a hint that does not serve
+  unhinted : hint_in c.privilege va kind c.tlb ≡ None → Past → Moved
+  unfolding translate_of stepped_now translate_in past_hint_of past_hint_step translate_work past_hint_work
+  unhinted h p = record { moved = p.moved ∙ rw h refl; read = p.read ∙ rw h refl }
+
 module _ (c : Core) (memory : ℕ → Option ℕ) (va : ℕ) (kind : Kind) where
   pub hint-serves : (pa : ℕ) → hint_in c.privilege va kind c.tlb ≡ Some pa → translate_of c memory va kind ≡ record { core = c; answer = Ok pa }
   unfolding translate_of stepped_now translate_in after_access
   hint-serves pa h = rw h refl
 
--- a hint that does not serve
-module _ (c : Core) (memory : ℕ → Option ℕ) (va : ℕ) (kind : Kind) where
-  pub unhinted : hint_in c.privilege va kind c.tlb ≡ None → past_hint_of c memory va kind ≡ translate_of c memory va kind
-  unfolding translate_of stepped_now translate_in past_hint_of past_hint_step
-  unhinted h = rw h refl
+  hint-reads : (pa : ℕ) → hint_in c.privilege va kind c.tlb ≡ Some pa → translate_work c memory va kind no_work ≡ no_work
+  unfolding translate_work
+  hint-reads pa h = rw h refl
 
--- a translation that no hint serves, in its two parts, by the kind that the instance reads
-module _ (c d : Core) (memory : ℕ → Option ℕ) (va : ℕ) (read kind : Kind) (a : Answer) (is : read ≡ kind) (none : hint_in c.privilege va kind c.tlb ≡ None) where
-  abbrev past : Kind → Type 0
-  past k = record { core = d; answer = a } ≡ past_hint_of c memory va k
+  pub hint-moves : (pa : ℕ) (k : Work) → hint_in c.privilege va kind c.tlb ≡ Some pa → k ≡ no_work → Moved c memory va kind c (Ok pa) k
+  hint-moves pa k h e = record { moved = sym (hint-serves pa h); read = e ∙ sym (hint-reads pa h) }
 
-  pub handed : past read → record { core = d; answer = a } ≡ translate_of c memory va kind
-  handed e = subst past is e ∙ unhinted c memory va kind none
+-- by the kind that an instance reads
+module _ (c : Core) (memory : ℕ → Option ℕ) (va : ℕ) (read kind : Kind) (is : read ≡ kind) where
+  pub needs-as : NeedsWalkNow c memory va kind → NeedsWalkNow c memory va read
+  needs-as n = subst (λ (k : Kind). NeedsWalkNow c memory va k) (sym is) n
 
-  pub walked : (NeedsWalkNow c memory va read → past read) → NeedsWalkNow c memory va kind → record { core = d; answer = a } ≡ translate_of c memory va kind
-  walked f needs = handed (f (subst (λ (k : Kind). NeedsWalkNow c memory va k) (sym is) needs))
+  pub unhinted-as : (d : Core) (a : Answer) (k : Work) → hint_in c.privilege va kind c.tlb ≡ None → Past c memory va read d a k → Moved c memory va kind d a k
+  unhinted-as d a k h p = unhinted c memory va kind d a k h (subst (λ (q : Kind). Past c memory va q d a k) is p)
 
--- a step by its reply
-pub tells : (s : Stepped) (d : Core) (r : Reply) (n old v : ℕ) → record { core = d; reply = r } ≡ s → n ≡ code_by r → v ≡ value_by r old → Tells s old n v d
-tells s d r n old v e en ev =
+-- A STEP by its reply and by what it read
+pub tells : (s : Stepped) (w : Work) (d : Core) (r : Reply) (k : Work) (n : ℕ) (old new : Report) → record { core = d; reply = r } ≡ s → k ≡ w → n ≡ code_by r
+    → new.value ≡ value_by r old.value → new.reads ≡ reads_by r k.reads old.reads → Tells s w old n new d
+tells s w d r k n old new e ew en ev er =
     record {
       number = en ∙ ap (λ (x : Stepped). code_by x.reply) e;
-      value = ev ∙ ap (λ (x : Stepped). value_by x.reply old) e;
+      value = ev ∙ ap (λ (x : Stepped). value_by x.reply old.value) e;
+      reads = er ∙ (λ i. reads_by (e i).reply (ew i).reads old.reads);
       core = ap (λ (x : Stepped). x.core) e;
     }
 
+-- the step and what it read by equations
+pub as-told : {s t : Stepped} {k w : Work} {old new : Report} {n : ℕ} {d : Core} → s ≡ t → k ≡ w → Tells s k old n new d → Tells t w old n new d
+as-told {s} {t} {k} {w} {old} {new} {n} {d} es ew told =
+    subst (λ (x : Stepped). Tells x w old n new d) es (subst (λ (x : Work). Tells s x old n new d) ew told)
+
 -- a translation by its reply
-pub asked-told : (c : Core) (memory : ℕ → Option ℕ) (va : ℕ) (kind : Kind) (d : Core) (a : Answer) (b : Bool) → record { core = d; answer = a } ≡ translate_of c memory va kind
-    → (old n v : ℕ) → (n ≡ code_by (asked_reply b va a)) × (v ≡ value_by (asked_reply b va a) old) → Tells (asked_run b va (translate_of c memory va kind)) old n v d
-asked-told c memory va kind d a b e old n v told = tells _ d (asked_reply b va a) n old v (ap (asked_run b va) e) told.0 told.1
+pub asked-told : (c : Core) (memory : ℕ → Option ℕ) (va : ℕ) (kind : Kind) (d : Core) (a : Answer) (k : Work) (b : Bool) → Moved c memory va kind d a k
+    → (old : Report) (n : ℕ) (new : Report)
+    → (n ≡ code_by (asked_reply b va a)) × (new.value ≡ value_by (asked_reply b va a) old.value) × (new.reads ≡ reads_by (asked_reply b va a) k.reads old.reads)
+    → Tells (asked_run b va (translate_of c memory va kind)) (translate_work c memory va kind no_work) old n new d
+asked-told c memory va kind d a k b m old n new told =
+    tells _ _ d (asked_reply b va a) k n old new (ap (asked_run b va) m.moved) m.read told.0 told.1 told.2

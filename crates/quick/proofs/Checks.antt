@@ -1,5 +1,5 @@
 -- A call by its checks: past them it is its operation, and where one is missed nothing changes.
-use Rattle.std.specs.Prelude.{◌≡◌, ◌+◌, ◌-◌, ◌^◌, ◌<◌, ◌≤◌, true, false, List, ℕ, length, Option, Some}
+use Rattle.std.specs.Prelude.{◌≡◌, ◌+◌, ◌-◌, ◌^◌, ◌<◌, ◌≤◌, true, false, List, ℕ, zero, suc, length, Option, Some}
 use Rattle.std.proofs.Common.{refl, sym, ap, ◌∙◌, arith, subst, le-ltb}
 use Rattle.word.specs.Ram.{word_at, width_of, bytes_in}
 use Rattle.word.specs.declared.ram.Width.{Width}
@@ -15,9 +15,13 @@ use Rattle.cpu.specs.System.{sys_of, sys_ram}
 use Rattle.system.specs.declared.decode.Encoding.{Encoding}
 use Rattle.cpu.specs.declared.call.Call.TheVariants.{Translate, DataPa, FetchPa, Load, Store, Fetch, System}
 use Rattle.cpu.specs.Step.{Stepped, after_load, after_store, load_by, store_by, store_ram_by}
-use Rattle.cpu.specs.Step.{ends, missed_by, run_of, ram_of, step_of, ram_after}
+use Rattle.cpu.specs.Step.{ends, refused_or, missed_by, run_of, ram_of, step_of, ram_after}
+use Rattle.cpu.specs.Work.{translate_work, fetch_work, read_work, write_work, sys_work, load_work_by, store_work_by, run_work, step_work}
+use Rattle.tlb.specs.Work.{no_work}
+use Rattle.tlb.specs.declared.work.Work.{Work}
+use Rattle.call_words.specs.declared.reply.Report.{Report}
 use Rattle.quick.specs.Says.{Tells, ram_checked, asked_run, fetch_run}
-use Rattle.quick.proofs.ByHint.{tells}
+use Rattle.quick.proofs.ByHint.{tells, as-told}
 
 module _ (c : Core) (base : ℕ) (ram : List ℕ) (x : Call) where
   module _ (e : 0 ≡ missed_by c base ram x) where
@@ -29,8 +33,13 @@ module _ (c : Core) (base : ℕ) (ram : List ℕ) (x : Call) where
     unfolding ram_after
     passed-ram = rw (← e) refl
 
-    pub told : (old n v : ℕ) (d : Core) → Tells (run_of c base ram x) old n v d → Tells (step_of c base ram x) old n v d
-    told old n v d t = subst (λ (s : Stepped). Tells s old n v d) passed t
+    passed-work : run_work c base ram x no_work ≡ step_work c base ram x no_work
+    unfolding step_work
+    passed-work = rw (← e) refl
+
+    pub told : (old : Report) (n : ℕ) (new : Report) (d : Core) → Tells (run_of c base ram x) (run_work c base ram x no_work) old n new d
+        → Tells (step_of c base ram x) (step_work c base ram x no_work) old n new d
+    told old n new d t = as-told passed passed-work t
 
   pub refuses : (k : Check) → number_of k ≡ missed_by c base ram x → ends c (Refused (number_of k)) ≡ step_of c base ram x
   unfolding step_of
@@ -42,8 +51,9 @@ module _ (c : Core) (base : ℕ) (ram : List ℕ) (x : Call) where
   refuses Check.Key e = rw (← e) refl
   refuses Check.Pages e = rw (← e) refl
 
-  pub refused : (k : Check) → number_of k ≡ missed_by c base ram x → (old n : ℕ) → n ≡ number_of k → Tells (step_of c base ram x) old n old c
-  refused k e old n en = tells _ c (Refused (number_of k)) n old old (refuses k e) en refl
+  pub refused : (k : Check) → number_of k ≡ missed_by c base ram x → (old : Report) (n : ℕ) → n ≡ number_of k
+      → Tells (step_of c base ram x) (step_work c base ram x no_work) old n old c
+  refused k e old n en = tells _ _ c (Refused (number_of k)) _ n old old (refuses k e) refl en refl refl
 
   pub refused-ram : (k : Check) → number_of k ≡ missed_by c base ram x → ram ≡ ram_after c base ram x
   unfolding ram_after
@@ -77,9 +87,10 @@ module _ (c : Core) (base : ℕ) (ram : List ℕ) where
       rw (level, window, known w) refl
 
 -- a call that is handed RAM and no more
-module _ (c : Core) (base : ℕ) (ram : List ℕ) (s : Stepped) where
-  pub ram-told : 0 ≡ first_of (ram_rows c.privilege.level base (length ram)) → (old n v : ℕ) (d : Core) → Tells s old n v d → Tells (ram_checked c base ram s) old n v d
-  ram-told e old n v d t = rw (← e) t
+module _ (c : Core) (base : ℕ) (ram : List ℕ) (s : Stepped) (w : Work) where
+  pub ram-told : 0 ≡ first_of (ram_rows c.privilege.level base (length ram)) → (old : Report) (n : ℕ) (new : Report) (d : Core) → Tells s w old n new d
+      → Tells (ram_checked c base ram s) w old n new d
+  ram-told e old n new d t = rw (← e) t
 
   ram-refuses : (k : Check) → number_of k ≡ first_of (ram_rows c.privilege.level base (length ram)) → ends c (Refused (number_of k)) ≡ ram_checked c base ram s
   ram-refuses Check.Level e = rw (← e) refl
@@ -90,25 +101,43 @@ module _ (c : Core) (base : ℕ) (ram : List ℕ) (s : Stepped) where
   ram-refuses Check.Key e = rw (← e) refl
   ram-refuses Check.Pages e = rw (← e) refl
 
-  pub ram-refused : (k : Check) → number_of k ≡ first_of (ram_rows c.privilege.level base (length ram)) → (old n : ℕ) → n ≡ number_of k → Tells (ram_checked c base ram s) old n old c
-  ram-refused k e old n en = tells _ c (Refused (number_of k)) n old old (ram-refuses k e) en refl
+  pub ram-refused : (k : Check) → number_of k ≡ first_of (ram_rows c.privilege.level base (length ram)) → (old : Report) (n : ℕ) → n ≡ number_of k
+      → Tells (ram_checked c base ram s) w old n old c
+  ram-refused k e old n en = tells _ _ c (Refused (number_of k)) _ n old old (ram-refuses k e) refl en refl refl
 
-module _ (c : Core) (base : ℕ) (ram : List ℕ) (va old n v : ℕ) (d : Core) where
-  pub translate-told : (kind : Kind) → Tells (ram_checked c base ram (asked_run true va (translate_of c (word_at base ram 8) va kind))) old n v d → Tells (step_of c base ram (Translate kind va)) old n v d
-  unfolding step_of run_of missed_of
-  translate-told kind t = t
+-- where a check is missed nothing was read
+module _ (c : Core) (s : Stepped) (w : Work) (old : Report) (n : ℕ) (new : Report) (d : Core) where
+  abbrev Checked : ℕ → Work → Type 0
+  Checked m k = Tells (refused_or m (λ j. ends c (Refused j)) s) k old n new d
 
-  pub data-told : Tells (ram_checked c base ram (asked_run false va (translate_of c (word_at base ram 8) va Read))) old n v d → Tells (step_of c base ram (DataPa va)) old n v d
-  unfolding step_of run_of missed_of data_pa_of translate_of
-  data-told t = t
+  pub checked-work : (m : ℕ) → Checked m w → Checked m (refused_or m (λ j. no_work) w)
+  checked-work zero t = t
+  checked-work (suc m) t = record { number = t.number; value = t.value; reads = t.reads; core = t.core }
 
-  pub fetch-told : Tells (ram_checked c base ram (fetch_run true c base ram va)) old n v d → Tells (step_of c base ram (Fetch va)) old n v d
-  unfolding step_of run_of missed_of
-  fetch-told t = t
+module _ (c : Core) (base : ℕ) (ram : List ℕ) (va : ℕ) (old : Report) (n : ℕ) (new : Report) (d : Core) where
+  abbrev rows : ℕ
+  rows = first_of (ram_rows c.privilege.level base (length ram))
 
-  pub pa-told : Tells (ram_checked c base ram (fetch_run false c base ram va)) old n v d → Tells (step_of c base ram (FetchPa va)) old n v d
-  unfolding step_of run_of missed_of
-  pa-told t = t
+  abbrev StepTells : Call → Type 0
+  StepTells x = Tells (step_of c base ram x) (step_work c base ram x no_work) old n new d
+
+  pub translate-told : (kind : Kind) → Tells (ram_checked c base ram (asked_run true va (translate_of c (word_at base ram 8) va kind))) (translate_work c (word_at base ram 8) va kind no_work) old n new d
+      → StepTells (Translate kind va)
+  unfolding step_of run_of missed_of step_work run_work
+  translate-told kind t = checked-work c _ _ old n new d rows t
+
+  pub data-told : Tells (ram_checked c base ram (asked_run false va (translate_of c (word_at base ram 8) va Read))) (translate_work c (word_at base ram 8) va Read no_work) old n new d
+      → StepTells (DataPa va)
+  unfolding step_of run_of missed_of data_pa_of translate_of step_work run_work
+  data-told t = checked-work c _ _ old n new d rows t
+
+  pub fetch-told : Tells (ram_checked c base ram (fetch_run true c base ram va)) (fetch_work c (word_at base ram 8) va no_work) old n new d → StepTells (Fetch va)
+  unfolding step_of run_of missed_of step_work run_work
+  fetch-told t = checked-work c _ _ old n new d rows t
+
+  pub pa-told : Tells (ram_checked c base ram (fetch_run false c base ram va)) (fetch_work c (word_at base ram 8) va no_work) old n new d → StepTells (FetchPa va)
+  unfolding step_of run_of missed_of step_work run_work
+  pa-told t = checked-work c _ _ old n new d rows t
 
 -- a load, a store
 module _ (c : Core) (base : ℕ) (ram : List ℕ) (va : ℕ) where
@@ -121,19 +150,20 @@ module _ (c : Core) (base : ℕ) (ram : List ℕ) (va : ℕ) where
   store-rows size value n e = e
 
   module _ (size : ℕ) (w : Width) (sized : width_of size ≡ Some w) (e : 0 ≡ first_of (sized_rows c.privilege.level base (length ram) size)) where
-    pub loaded : (old n v : ℕ) (d : Core) → Tells (after_load (read_of c base ram va (bytes_in w))) old n v d → Tells (step_of c base ram (Load va size)) old n v d
-    unfolding run_of
-    loaded old n v d t =
-        told c base ram (Load va size) (load-rows size 0 e) old n v d
-        (subst (λ (x : Option Width). Tells (load_by x c base ram va) old n v d) (sym sized) t)
+    pub loaded : (old : Report) (n : ℕ) (new : Report) (d : Core) → Tells (after_load (read_of c base ram va (bytes_in w))) (read_work c base ram va (bytes_in w) no_work) old n new d
+        → Tells (step_of c base ram (Load va size)) (step_work c base ram (Load va size) no_work) old n new d
+    unfolding run_of run_work
+    loaded old n new d t =
+        told c base ram (Load va size) (load-rows size 0 e) old n new d
+        (subst (λ (x : Option Width). Tells (load_by x c base ram va) (load_work_by x c base ram va no_work) old n new d) (sym sized) t)
 
     module _ (value : ℕ) where
-      pub stored : (old n v : ℕ) (d : Core) → Tells (after_store (write_of c base ram va (bytes_in w))) old n v d
-          → Tells (step_of c base ram (Store va size value)) old n v d
-      unfolding run_of
-      stored old n v d t =
-          told c base ram (Store va size value) (store-rows size value 0 e) old n v d
-          (subst (λ (x : Option Width). Tells (store_by x c base ram va) old n v d) (sym sized) t)
+      pub stored : (old : Report) (n : ℕ) (new : Report) (d : Core) → Tells (after_store (write_of c base ram va (bytes_in w))) (write_work c base ram va (bytes_in w) no_work) old n new d
+          → Tells (step_of c base ram (Store va size value)) (step_work c base ram (Store va size value) no_work) old n new d
+      unfolding run_of run_work
+      stored old n new d t =
+          told c base ram (Store va size value) (store-rows size value 0 e) old n new d
+          (subst (λ (x : Option Width). Tells (store_by x c base ram va) (store_work_by x c base ram va no_work) old n new d) (sym sized) t)
 
       pub stored-ram : (ys : List ℕ) → ys ≡ ram_after_write c base ram va (bytes_in w) value → ys ≡ ram_after c base ram (Store va size value)
       unfolding ram_of
@@ -143,9 +173,11 @@ module _ (c : Core) (base : ℕ) (ram : List ℕ) (va : ℕ) where
 
 -- a system operation
 module _ (c : Core) (base : ℕ) (ram : List ℕ) (e : Encoding) (p : 0 ≡ missed_by c base ram (System e)) where
-  pub system-told : (old n v : ℕ) (d : Core) → Tells (after_store (sys_of c base ram e.op1 e.crn e.crm e.op2 e.rt)) old n v d → Tells (step_of c base ram (System e)) old n v d
-  unfolding run_of
-  system-told old n v d t = told c base ram (System e) p old n v d t
+  pub system-told : (old : Report) (n : ℕ) (new : Report) (d : Core)
+      → Tells (after_store (sys_of c base ram e.op1 e.crn e.crm e.op2 e.rt)) (sys_work c base ram e.op1 e.crn e.crm e.op2 e.rt no_work) old n new d
+      → Tells (step_of c base ram (System e)) (step_work c base ram (System e) no_work) old n new d
+  unfolding run_of run_work
+  system-told old n new d t = told c base ram (System e) p old n new d t
 
   pub system-ram : (ys : List ℕ) → ys ≡ sys_ram c base ram e.op1 e.crn e.crm e.op2 e.rt → ys ≡ ram_after c base ram (System e)
   unfolding ram_of

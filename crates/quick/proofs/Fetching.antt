@@ -1,6 +1,6 @@
 -- A fetch, and where one goes, by its one translation; and where a data read goes, on plain values.
 use Rattle.std.specs.Prelude.{◌≡◌, Bool, true, false, List, ℕ, Option, Some, None, Ok, Err}
-use Rattle.std.proofs.Common.{refl, sym, ap, ◌∙◌, subst}
+use Rattle.std.proofs.Common.{refl, sym, ap, ◌∙◌}
 use Rattle.word.specs.Ram.{word_at}
 use Rattle.fault.specs.declared.Fault.{Fault}
 use Rattle.exception.specs.Abort.{insn_abort_at}
@@ -17,18 +17,28 @@ use Rattle.cpu.specs.Results.{Translated, Fetched}
 use Rattle.cpu.specs.declared.Core.{Core}
 use Rattle.cpu.specs.Bytes.{insn_of}
 use Rattle.cpu.specs.Ends.{external, fetch_end, fetched_from}
-use Rattle.cpu.specs.Step.{Stepped, after_fetch, after_address}
+use Rattle.cpu.specs.Step.{after_fetch, after_address}
+use Rattle.cpu.specs.Work.{past_hint_work, fetch_work}
+use Rattle.tlb.specs.Work.{no_work}
+use Rattle.tlb.specs.declared.work.Work.{Work}
+use Rattle.call_words.specs.declared.reply.Report.{Report}
+use Rattle.quick.proofs.ByHint.{Past, as-told}
 use Rattle.quick.specs.Says.{Tells, fetched_of, reached_of, hint_left, fetch_run, fetch_ended}
 
 -- THE FETCH HINT
+
+-- the translation that a fetch begins with, the core d that it leaves, its answer, and what it read
+pub record FetchMoved (c : Core) (memory : ℕ → Option ℕ) (va : ℕ) (d : Core) (x : Answer) (k : Work) : Type 0 where
+  pub moved : record { core = d; answer = x } ≡ translate_fetch_of c memory va
+  pub read : k ≡ fetch_work c memory va no_work
 
 module _ (c : Core) (memory : ℕ → Option ℕ) (va : ℕ) where
   abbrev a : Access
   a = access_of (bank_now c) c.privilege va Fetch memory
 
-  pub fetch-serves : (pa : ℕ) → fetch_found c.tlb.fetch c.privilege.level va ≡ Some pa → record { core = c; answer = Ok pa } ≡ translate_fetch_of c memory va
-  unfolding translate_fetch_of fetch_stepped_now translate_fetch_in after_access
-  fetch-serves pa h = sym (rw h refl)
+  pub fetch-serves : (pa : ℕ) (k : Work) → fetch_found c.tlb.fetch c.privilege.level va ≡ Some pa → k ≡ no_work → FetchMoved c memory va c (Ok pa) k
+  unfolding translate_fetch_of fetch_stepped_now translate_fetch_in after_access fetch_work
+  fetch-serves pa k h e = record { moved = sym (rw h refl); read = e ∙ sym (rw h refl) }
 
   abbrev left : Translated → Translated
   left t = record { core = hint_left t.core va t.answer; answer = t.answer }
@@ -44,9 +54,14 @@ module _ (c : Core) (memory : ℕ → Option ℕ) (va : ℕ) where
   unfolding translate_fetch_of fetch_stepped_now translate_fetch_in past_hint_of past_hint_step
   fetch-misses h = rw h (hint-kept (miss_in a c.tlb).answer (miss_in a c.tlb).after)
 
-  pub fetch-missed : (d e : Core) (x : Answer) → fetch_found c.tlb.fetch c.privilege.level va ≡ None
-      → record { core = d; answer = x } ≡ past_hint_of c memory va Fetch → e ≡ hint_left d va x → record { core = e; answer = x } ≡ translate_fetch_of c memory va
-  fetch-missed d e x h ed ee = ap (λ (y : Core). record { core = y; answer = x }) ee ∙ ap left ed ∙ fetch-misses h
+  fetch-reads : fetch_found c.tlb.fetch c.privilege.level va ≡ None → past_hint_work c memory va Fetch no_work ≡ fetch_work c memory va no_work
+  unfolding fetch_work past_hint_work
+  fetch-reads h = rw h refl
+
+  pub fetch-missed : (d e : Core) (x : Answer) (k : Work) → fetch_found c.tlb.fetch c.privilege.level va ≡ None
+      → Past c memory va Fetch d x k → e ≡ hint_left d va x → FetchMoved c memory va e x k
+  fetch-missed d e x k h p ee =
+      record { moved = ap (λ (y : Core). record { core = y; answer = x }) ee ∙ ap left p.moved ∙ fetch-misses h; read = p.read ∙ fetch-reads h }
 
 -- THE ENDS OF A FETCH
 
@@ -72,19 +87,17 @@ module _ (d : Core) (base : ℕ) (ram : List ℕ) (va : ℕ) where
 
 -- BY THE TRANSLATION
 
-module _ (c : Core) (base : ℕ) (ram : List ℕ) (va : ℕ) (e : Core) (x : Answer) where
-  module _ (et : record { core = e; answer = x } ≡ translate_fetch_of c (word_at base ram 8) va) where
+module _ (c : Core) (base : ℕ) (ram : List ℕ) (va : ℕ) (e : Core) (x : Answer) (k : Work) where
+  module _ (by_translation : FetchMoved c (word_at base ram 8) va e x k) where
     fetched-is : fetched_of e x base ram va ≡ fetch_of c base ram va
     unfolding fetch_of translate_fetch_of after_access
-    fetched-is = ap (λ (t : Translated). fetched_of t.core t.answer base ram va) et
-
-    told-fetch : (old n v : ℕ) (f : Core) → Tells (after_fetch (fetched_of e x base ram va)) old n v f → Tells (after_fetch (fetch_of c base ram va)) old n v f
-    told-fetch old n v f t = subst (λ (s : Stepped). Tells s old n v f) (ap after_fetch fetched-is) t
+    fetched-is = ap (λ (t : Translated). fetched_of t.core t.answer base ram va) by_translation.moved
 
     reached-is : reached_of e x ≡ fetch_pa_of c (word_at base ram 8) va
     unfolding fetch_pa_of translate_fetch_of
-    reached-is = ap (λ (t : Translated). reached_of t.core t.answer) et
+    reached-is = ap (λ (t : Translated). reached_of t.core t.answer) by_translation.moved
 
-    pub told : (insn : Bool) (old n v : ℕ) (f : Core) → Tells (fetch_ended insn e x base ram va) old n v f → Tells (fetch_run insn c base ram va) old n v f
-    told true old n v f t = told-fetch old n v f t
-    told false old n v f t = subst (λ (s : Stepped). Tells s old n v f) (ap after_address reached-is) t
+    pub told : (insn : Bool) (old : Report) (n : ℕ) (new : Report) (f : Core) → Tells (fetch_ended insn e x base ram va) k old n new f
+        → Tells (fetch_run insn c base ram va) (fetch_work c (word_at base ram 8) va no_work) old n new f
+    told true old n new f t = as-told (ap after_fetch fetched-is) by_translation.read t
+    told false old n new f t = as-told (ap after_address reached-is) by_translation.read t

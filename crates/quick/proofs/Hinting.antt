@@ -14,9 +14,13 @@ use Rattle.cpu.specs.declared.call.Call.TheVariants.{DataPa}
 use Rattle.cpu.specs.Memory.{translate_of}
 use Rattle.cpu.specs.Step.{step_of}
 use Rattle.call_words.specs.Ops.{kind_of, translate_call}
-use Rattle.call_words.specs.Replies.{code_by, value_by}
-use Rattle.quick.specs.Says.{Says, Tells, asked_reply, asked_run, ram_checked, plain, served}
-use Rattle.quick.proofs.ByHint.{hint-serves, asked-told}
+use Rattle.cpu.specs.Work.{translate_work, step_work}
+use Rattle.tlb.specs.Work.{no_work}
+use Rattle.cpu.specs.declared.call.Reply.{Reply}
+use Rattle.call_words.specs.Replies.{code_by, value_by, reads_by}
+use Rattle.call_words.specs.declared.reply.Report.{Report}
+use Rattle.quick.specs.Says.{Says, Tells, unread, asked_reply, asked_run, ram_checked, plain, served}
+use Rattle.quick.proofs.ByHint.{hint-moves, asked-told}
 use Rattle.quick.proofs.Checks.{ram-told, clear, translate-told, data-told}
 
 pub low : (va : ℕ) → data_slot va Read < 256
@@ -130,20 +134,24 @@ module _ (c : Core) (base : ℕ) (ram : List ℕ) (va : ℕ) (long : length ram 
   abbrev memory : ℕ → Option ℕ
   memory = word_at base ram 8
 
-  told : (k : Kind) (pa : ℕ) → served c base (length ram) va (Ok k) ≡ Some pa → (b : Bool) (old : ℕ)
-      → Tells (ram_checked c base ram (asked_run b va (translate_of c memory va k))) old (code_by (asked_reply b va (Ok pa))) (value_by (asked_reply b va (Ok pa)) old) c
+  abbrev report : Reply → Report → Report
+  report r old = record { value = value_by r old.value; reads = reads_by r 0 old.reads }
+
+  told : (k : Kind) (pa : ℕ) → served c base (length ram) va (Ok k) ≡ Some pa → (b : Bool) (old : Report)
+      → Tells (ram_checked c base ram (asked_run b va (translate_of c memory va k))) (translate_work c memory va k no_work) old (code_by (asked_reply b va (Ok pa))) (report (asked_reply b va (Ok pa)) old) c
   told k pa e b old =
       let s = split (nat_le c.privilege.level 3) (nat_le base (2 ^ 64 - 1 - length ram)) (hint_in c.privilege va k c.tlb) pa e in
       let level : c.privilege.level ≤ 3 = leb-true c.privilege.level 3 s.0 in
       let low : c.privilege.level < 4 = omega (arith, level) in
       let fits : base ≤ 2 ^ 64 - 1 - length ram = leb-true base (2 ^ 64 - 1 - length ram) s.1 in
-      ram-told c base ram _ (clear c base ram low long fits) _ _ _ _
-      (asked-told c memory va k c (Ok pa) b (sym (hint-serves c memory va k pa s.2)) old _ _ (refl, refl))
+      ram-told c base ram _ _ (clear c base ram low long fits) _ _ _ _
+      (asked-told c memory va k c (Ok pa) no_work b (hint-moves c memory va k pa no_work s.2 refl) old _ (report (asked_reply b va (Ok pa)) old) (refl, refl, refl))
 
-  pub data-served : (pa : ℕ) → served c base (length ram) va (Ok Read) ≡ Some pa → (old : ℕ) → Tells (step_of c base ram (DataPa va)) old 0 pa c
-  data-served pa e old = data-told c base ram va old 0 pa c (told Read pa e false old)
+  pub data-served : (pa : ℕ) → served c base (length ram) va (Ok Read) ≡ Some pa → (old : Report)
+      → Tells (step_of c base ram (DataPa va)) (step_work c base ram (DataPa va) no_work) old 0 (unread pa) c
+  data-served pa e old = data-told c base ram va old 0 (unread pa) c (told Read pa e false old)
 
-  pub kind-served : (r : Result Kind NoSuchKind) (pa : ℕ) → served c base (length ram) va r ≡ Some pa → (old : ℕ) → Says (translate_call r va) c base ram old 0 pa c
+  pub kind-served : (r : Result Kind NoSuchKind) (pa : ℕ) → served c base (length ram) va r ≡ Some pa → (old : Report) → Says (translate_call r va) c base ram old 0 (unread pa) c
   unfolding translate_call
-  kind-served (Ok k) pa e old = translate-told c base ram va old 0 pa c k (told k pa e true old)
+  kind-served (Ok k) pa e old = translate-told c base ram va old 0 (unread pa) c k (told k pa e true old)
   kind-served (Err x) pa e old = absurd (subst is_at (sym e) tt)

@@ -1,6 +1,7 @@
 -- Laws that the answers cite.
 mod Both
 mod ByHint
+mod Works
 mod OnePage
 mod OneStore
 mod Fetching

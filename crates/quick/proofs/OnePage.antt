@@ -1,6 +1,6 @@
 -- A load of one page, by its one translation, on plain values.
 use Rattle.std.specs.Prelude.{if◌then◌else◌, ◌≡◌, Bool, true, false, ◌&&◌, ◌+◌, ◌^◌, ◌<◌, ◌≤◌, List, ℕ, Option, Some, None, Ok, Err}
-use Rattle.std.proofs.Common.{refl, sym, ap, ◌∙◌, arith, le-ltb, subst}
+use Rattle.std.proofs.Common.{refl, sym, ap, ◌∙◌, arith, le-ltb}
 use native.Mathlib.Nat.{mod-eq_of_lt}
 use Rattle.word.specs.Bits.{wrap}
 use Rattle.word.specs.Ram.{word_at}
@@ -19,15 +19,16 @@ use Rattle.cpu.specs.Place.{in_page, next_page, crosses, goes_on, placed_one, pl
 use Rattle.cpu.specs.Ends.{data_abort, external, load_end, loaded_from}
 use Rattle.cpu.specs.declared.place.Place.TheVariants.{Whole, Split}
 use Rattle.cpu.proofs.Moves.{whole-value, whole-abort}
-use Rattle.cpu.specs.Step.{Stepped, after_load}
+use Rattle.cpu.specs.Step.{after_load}
 use Rattle.quick.specs.Says.{Tells, ended_of}
 use Rattle.tlb.specs.Translate.{hint_in}
 use Rattle.cpu.specs.Bytes.{load_of}
-use Rattle.quick.proofs.ByHint.{hint-serves}
-
-and-false : (x : Bool) → x && false ≡ false
-and-false true = refl
-and-false false = refl
+use Rattle.cpu.specs.Work.{read_work}
+use Rattle.tlb.specs.Work.{no_work}
+use Rattle.tlb.specs.declared.work.Work.{Work}
+use Rattle.call_words.specs.declared.reply.Report.{Report}
+use Rattle.quick.proofs.ByHint.{Moved, hint-serves, as-told}
+use Rattle.quick.proofs.Works.{and-false, one-reads}
 
 goes-not : (a : Answer) → goes_on a false ≡ false
 goes-not (Ok pa) = refl
@@ -73,10 +74,11 @@ module _ (d : Core) (base : ℕ) (ram : List ℕ) (va n : ℕ) where
         ∙ ap from_ram (whole-abort base ram pa n w ew q) ∙ ap by (sym e)
 
 -- a load of one page, by its translation
-pub told : (c : Core) (base : ℕ) (ram : List ℕ) (va n : ℕ) (d : Core) (a : Answer) (old m v : ℕ) (e : Core) → n ≤ in_page va
-    → record { core = d; answer = a } ≡ translate_of c (word_at base ram 8) va Read → Tells (after_load (ended_of d a base ram va n)) old m v e
-    → Tells (after_load (read_of c base ram va n)) old m v e
-told c base ram va n d a old m v e near et t = subst (λ (s : Stepped). Tells s old m v e) (ap after_load (ended-is c base ram va n near d a et)) t
+pub told : (c : Core) (base : ℕ) (ram : List ℕ) (va n : ℕ) (d : Core) (a : Answer) (k : Work) (old : Report) (m : ℕ) (new : Report) (e : Core) → n ≤ in_page va
+    → Moved c (word_at base ram 8) va Read d a k → Tells (after_load (ended_of d a base ram va n)) k old m new e
+    → Tells (after_load (read_of c base ram va n)) (read_work c base ram va n no_work) old m new e
+told c base ram va n d a k old m new e near moved t =
+    as-told (ap after_load (ended-is c base ram va n near d a moved.moved)) (one-reads c (word_at base ram 8) va n Read near k moved.read) t
 
 -- two pages by their hints
 module _ (c : Core) (base : ℕ) (ram : List ℕ) (va n pa pa2 v : ℕ) where

@@ -26,9 +26,14 @@ use Rattle.cpu.proofs.Moves.{whole-inside, whole-outside}
 use Rattle.quick.proofs.Both.{both-judged, both-stores}
 use Rattle.word.specs.declared.ram.Width.{Width}
 use Rattle.word.specs.declared.ram.Width.TheVariants.{Half}
-use Rattle.cpu.specs.Step.{Stepped, after_store}
+use Rattle.cpu.specs.Step.{after_store}
 use Rattle.quick.specs.Says.{Tells, PutTwo, stored_of, put_of}
-use Rattle.quick.proofs.ByHint.{hint-serves}
+use Rattle.cpu.specs.Work.{write_work}
+use Rattle.tlb.specs.Work.{no_work}
+use Rattle.tlb.specs.declared.work.Work.{Work}
+use Rattle.call_words.specs.declared.reply.Report.{Report}
+use Rattle.quick.proofs.ByHint.{Moved, hint-serves, as-told}
+use Rattle.quick.proofs.Works.{one-reads, two-read-none}
 use Rattle.quick.proofs.OnePage.{stays_in}
 
 module _ (c : Core) (base : ℕ) (ram : List ℕ) (va n : ℕ) (near : n ≤ in_page va) where
@@ -89,12 +94,14 @@ module _ (d : Core) (base : ℕ) (ram : List ℕ) (va n : ℕ) where
           ∙ ap judged (whole-outside base ram pa n f t ef) ∙ ap by (sym e)
 
 -- a store of one page, by its translation
-module _ (c : Core) (base : ℕ) (ram : List ℕ) (va n : ℕ) (near : n ≤ in_page va) (d : Core) (a : Answer) (et : record { core = d; answer = a } ≡ translate_of c (word_at base ram 8) va Write) where
-  pub told : (old m x : ℕ) (e : Core) → Tells (after_store (stored_of d a base ram va n)) old m x e → Tells (after_store (write_of c base ram va n)) old m x e
-  told old m x e t = subst (λ (s : Stepped). Tells s old m x e) (ap after_store (stored-is c base ram va n near d a et)) t
+module _ (c : Core) (base : ℕ) (ram : List ℕ) (va n : ℕ) (near : n ≤ in_page va) (d : Core) (a : Answer) (k : Work) (moved : Moved c (word_at base ram 8) va Write d a k) where
+  pub told : (old : Report) (m : ℕ) (new : Report) (e : Core) → Tells (after_store (stored_of d a base ram va n)) k old m new e
+      → Tells (after_store (write_of c base ram va n)) (write_work c base ram va n no_work) old m new e
+  told old m new e t =
+      as-told (ap after_store (stored-is c base ram va n near d a moved.moved)) (one-reads c (word_at base ram 8) va n Write near k moved.read) t
 
   pub put-told : (v : ℕ) (ys : List ℕ) → ys ≡ put_of a base ram va n v → ys ≡ ram_after_write c base ram va n v
-  put-told v ys q = q ∙ put-is c base ram va n near d a et v
+  put-told v ys q = q ∙ put-is c base ram va n near d a moved.moved v
 
 -- two pages by their hints
 module _ (c : Core) (base : ℕ) (ram : List ℕ) (va n pa pa2 : ℕ) where
@@ -138,7 +145,7 @@ module _ (c : Core) (base : ℕ) (ram : List ℕ) (va n pa pa2 : ℕ) where
       pub put-two : (v : ℕ) (f : Bool) (ys : List ℕ) → f ≡ both_inside base (length ram) pages n → ys ≡ both_stored base ram pages n v
           → PutTwo c base ram va n v f ys
       unfolding both_stored
-      put-two v true ys ef ey = (two-write (sym ef), ey ∙ two-put v (sym ef))
+      put-two v true ys ef ey = (two-write (sym ef), two-read-none c memory va n Write pa pa2 k h h2, ey ∙ two-put v (sym ef))
       put-two v false ys ef ey = ey ∙ rw (← ef) refl
 
 -- a store that was made

@@ -1,5 +1,5 @@
 -- What a register write and a setting leave, whatever RAM stands there.
-use Rattle.std.specs.Prelude.{◌≡◌, ◌<◌, ◌≤◌, ◌==◌, ◌||◌, ◌∷◌, [], nat_lt, not, Bool, true, false, ℕ, zero, suc, Ok, Err, Option, Some, None}
+use Rattle.std.specs.Prelude.{◌≡◌, ◌<◌, ◌≤◌, ◌==◌, ◌||◌, ◌∷◌, [], nat_lt, not, Bool, true, false, List, ℕ, zero, suc, Ok, Err, Option, Some, None}
 use Rattle.std.proofs.Common.{refl, sym, ap, ◌∙◌, arith, le-ltb, lt-ltb, subst}
 use native.Mathlib.Nat.{mod-eq_of_lt}
 use Rattle.sysreg.specs.Write.{WriteAnswer}
@@ -14,16 +14,33 @@ use Rattle.cpu.specs.Registers.{after_register_write, set_level, set_mark, abort
 use Rattle.cpu.specs.Check.{missed_of, first_of, kept, number_of}
 use Rattle.cpu.specs.Replies.{registering}
 use Rattle.cpu.specs.declared.check.Check.{Check}
-use Rattle.cpu.specs.declared.call.Call.TheVariants.{Register, Level, General, Abort}
+use Rattle.cpu.specs.declared.call.Call.{Call}
+use Rattle.cpu.specs.declared.call.Call.TheVariants.{Register, Level, Mark, General, Abort}
+use Rattle.cpu.specs.declared.call.Reply.{Reply}
 use Rattle.cpu.specs.declared.call.Reply.TheVariants.{Refused, Done}
-use Rattle.cpu.specs.Step.{step_of, run_of, after_write}
-use Rattle.call_words.specs.Replies.{code_by, value_by}
+use Rattle.cpu.specs.Step.{refused_or, missed_by, step_of, run_of, after_write}
+use Rattle.cpu.specs.Work.{run_work, step_work}
+use Rattle.tlb.specs.Work.{no_work}
+use Rattle.tlb.specs.declared.work.Work.{Work}
+use Rattle.call_words.specs.Replies.{code_by, value_by, reads_by}
 use Rattle.call_words.specs.Ops.{mark_call}
 use Rattle.call_words.specs.declared.op.DecodedCall.{DecodedCall}
 use Rattle.call_words.specs.declared.op.DecodedCall.TheVariants.{Known}
-use Rattle.quick.specs.Says.{Sets}
+use Rattle.quick.specs.Says.{Says, Sets, unread}
 use Rattle.quick.proofs.ByHint.{tells}
 use Rattle.quick.proofs.Checks.{passed, refuses}
+
+-- it reads nothing, so that a report of no reads stays
+refused-same : (m : ℕ) (w : Work) → refused_or m (λ j. w) w ≡ w
+refused-same zero w = refl
+refused-same (suc m) w = refl
+
+set-tells : (c : Core) (base : ℕ) (ram : List ℕ) (x : Call) (d : Core) (r : Reply) (n v : ℕ) → run_work c base ram x no_work ≡ no_work
+    → record { core = d; reply = r } ≡ step_of c base ram x → n ≡ code_by r → v ≡ value_by r v → 0 ≡ reads_by r 0 0 → Says (Known x) c base ram (unread v) n (unread v) d
+unfolding step_work
+set-tells c base ram x d r n v none e en ev er =
+    tells _ _ d r no_work n (unread v) (unread v) e
+    (sym (ap (refused_or (missed_by c base ram x) (λ j. no_work)) none ∙ refused-same (missed_by c base ram x) no_work)) en ev er
 
 -- REGISTERS
 
@@ -36,27 +53,32 @@ module _ (c : Core) (k key v : ℕ) (ek : k ≡ key) where
   abbrev missed : ℕ
   missed = first_of ((nat_lt 3 c.privilege.level, 1) ∷ (not (kept k), 6) ∷ [])
 
-  no-value : (a : WriteAnswer) (old : ℕ) → old ≡ value_by (registering a) old
-  no-value (Ok x) old = refl
-  no-value (Err Undefined) old = refl
-  no-value (Err NoRegister) old = refl
+  no-value : (a : WriteAnswer) (v : ℕ) → v ≡ value_by (registering a) v
+  no-value (Ok x) v = refl
+  no-value (Err Undefined) v = refl
+  no-value (Err NoRegister) v = refl
+
+  no-reads : (a : WriteAnswer) → 0 ≡ reads_by (registering a) 0 0
+  no-reads (Ok x) = refl
+  no-reads (Err Undefined) = refl
+  no-reads (Err NoRegister) = refl
 
   named : (n : ℕ) (d : Core) → Sets (Known (Register k v)) c n d → Sets (Known (Register key v)) c n d
   named n d s = subst (λ (x : ℕ). Sets (Known (Register x v)) c n d) ek s
 
   register-set : (d : Core) (a : WriteAnswer) (n : ℕ) → 0 ≡ missed → record { core = d; answer = a } ≡ after_register_write c k v → n ≡ code_by (registering a)
       → Sets (Known (Register key v)) c n d
-  unfolding run_of missed_of
+  unfolding run_of run_work missed_of
   register-set d a n e ew en =
       named n d (record {
-        on = λ base ram old.
-            tells _ d (registering a) n old old (ap after_write ew ∙ passed c base ram (Register k v) e) en (no-value a old);
+        on = λ base ram w.
+            set-tells c base ram (Register k v) d (registering a) n w refl (ap after_write ew ∙ passed c base ram (Register k v) e) en (no-value a w) (no-reads a);
       })
 
   register-refused : (x : Check) (n : ℕ) → number_of x ≡ missed → n ≡ number_of x → Sets (Known (Register key v)) c n c
-  unfolding missed_of
+  unfolding run_work missed_of
   register-refused x n e en =
-      named n c (record { on = λ base ram old. tells _ c (Refused (number_of x)) n old old (refuses c base ram (Register k v) x e) en refl })
+      named n c (record { on = λ base ram w. set-tells c base ram (Register k v) c (Refused (number_of x)) n w refl (refuses c base ram (Register k v) x e) en refl refl })
 
   pub register-high : 3 < c.privilege.level → Sets (Known (Register key v)) c 1 c
   register-high h = register-refused Check.Level 1 (rw (lt-ltb 3 c.privilege.level h) refl) refl
@@ -89,63 +111,63 @@ or-true false = refl
 module _ (c : Core) where
   module _ (l : ℕ) where
     pub level-set : c.privilege.level < 4 → l < 4 → Sets (Known (Level l)) c 0 (set_level c l)
-    unfolding step_of run_of missed_of
+    unfolding step_of run_of run_work missed_of
     level-set h k =
         record {
-          on = λ base ram old.
-              tells _ (set_level c l) Done 0 old old
-              (rw (le-ltb 3 c.privilege.level (omega arith), le-ltb 3 l (omega arith), mod-eq_of_lt k) refl) refl refl;
+          on = λ base ram w.
+              set-tells c base ram (Level l) (set_level c l) Done 0 w refl
+              (rw (le-ltb 3 c.privilege.level (omega arith), le-ltb 3 l (omega arith), mod-eq_of_lt k) refl) refl refl refl;
         }
 
     pub level-high : 3 < c.privilege.level → Sets (Known (Level l)) c 1 c
-    unfolding step_of run_of missed_of
-    level-high h = record { on = λ base ram old. tells _ c (Refused 1) 1 old old (rw (lt-ltb 3 c.privilege.level h) refl) refl refl }
+    unfolding step_of run_of run_work missed_of
+    level-high h = record { on = λ base ram w. set-tells c base ram (Level l) c (Refused 1) 1 w refl (rw (lt-ltb 3 c.privilege.level h) refl) refl refl refl }
 
     pub level-over : 3 < l → Sets (Known (Level l)) c 1 c
-    unfolding step_of run_of missed_of
+    unfolding step_of run_of run_work missed_of
     level-over h =
-        record { on = λ base ram old. tells _ c (Refused 1) 1 old old (rw (lt-ltb 3 l h, or-true (nat_lt 3 c.privilege.level)) refl) refl refl }
+        record { on = λ base ram w. set-tells c base ram (Level l) c (Refused 1) 1 w refl (rw (lt-ltb 3 l h, or-true (nat_lt 3 c.privilege.level)) refl) refl refl refl }
 
   pub mark-set : (n : ℕ) → n ≤ 1 → c.privilege.level < 4 → Sets (mark_call n) c 0 (set_mark c (n == 1))
-  unfolding step_of run_of missed_of
+  unfolding step_of run_of run_work missed_of
   mark-set zero h k =
-      record { on = λ base ram old. tells _ (set_mark c false) Done 0 old old (rw (le-ltb 3 c.privilege.level (omega arith)) refl) refl refl }
+      record { on = λ base ram w. set-tells c base ram (Mark false) (set_mark c false) Done 0 w refl (rw (le-ltb 3 c.privilege.level (omega arith)) refl) refl refl refl }
   mark-set (suc zero) h k =
-      record { on = λ base ram old. tells _ (set_mark c true) Done 0 old old (rw (le-ltb 3 c.privilege.level (omega arith)) refl) refl refl }
+      record { on = λ base ram w. set-tells c base ram (Mark true) (set_mark c true) Done 0 w refl (rw (le-ltb 3 c.privilege.level (omega arith)) refl) refl refl refl }
   mark-set (suc (suc n)) h k = absurd (omega arith)
 
   pub mark-high : (n : ℕ) → n ≤ 1 → 3 < c.privilege.level → Sets (mark_call n) c 1 c
-  unfolding step_of run_of missed_of
-  mark-high zero h k = record { on = λ base ram old. tells _ c (Refused 1) 1 old old (rw (lt-ltb 3 c.privilege.level k) refl) refl refl }
-  mark-high (suc zero) h k = record { on = λ base ram old. tells _ c (Refused 1) 1 old old (rw (lt-ltb 3 c.privilege.level k) refl) refl refl }
+  unfolding step_of run_of run_work missed_of
+  mark-high zero h k = record { on = λ base ram w. set-tells c base ram (Mark false) c (Refused 1) 1 w refl (rw (lt-ltb 3 c.privilege.level k) refl) refl refl refl }
+  mark-high (suc zero) h k = record { on = λ base ram w. set-tells c base ram (Mark true) c (Refused 1) 1 w refl (rw (lt-ltb 3 c.privilege.level k) refl) refl refl refl }
   mark-high (suc (suc n)) h k = absurd (omega arith)
 
   module _ (n v : ℕ) where
     pub general-set : c.privilege.level < 4 → n < 32 → Sets (Known (General n v)) c 0 (set_reg c n v)
-    unfolding step_of run_of missed_of
+    unfolding step_of run_of run_work missed_of
     general-set h k =
         record {
-          on = λ base ram old.
-              tells _ (set_reg c n v) Done 0 old old (rw (le-ltb 3 c.privilege.level (omega arith), le-ltb 31 n (omega arith)) refl) refl refl;
+          on = λ base ram w.
+              set-tells c base ram (General n v) (set_reg c n v) Done 0 w refl (rw (le-ltb 3 c.privilege.level (omega arith), le-ltb 31 n (omega arith)) refl) refl refl refl;
         }
 
     pub general-high : 3 < c.privilege.level → Sets (Known (General n v)) c 1 c
-    unfolding step_of run_of missed_of
-    general-high h = record { on = λ base ram old. tells _ c (Refused 1) 1 old old (rw (lt-ltb 3 c.privilege.level h) refl) refl refl }
+    unfolding step_of run_of run_work missed_of
+    general-high h = record { on = λ base ram w. set-tells c base ram (General n v) c (Refused 1) 1 w refl (rw (lt-ltb 3 c.privilege.level h) refl) refl refl refl }
 
     pub general-over : c.privilege.level < 4 → 31 < n → Sets (Known (General n v)) c 5 c
-    unfolding step_of run_of missed_of
+    unfolding step_of run_of run_work missed_of
     general-over h k =
         record {
-          on = λ base ram old.
-              tells _ c (Refused 5) 5 old old (rw (le-ltb 3 c.privilege.level (omega arith), lt-ltb 31 n k) refl) refl refl;
+          on = λ base ram w.
+              set-tells c base ram (General n v) c (Refused 5) 5 w refl (rw (le-ltb 3 c.privilege.level (omega arith), lt-ltb 31 n k) refl) refl refl refl;
         }
 
   module _ (e : Exception) where
     pub abort-set : c.privilege.level < 4 → Sets (Known (Abort e)) c 0 (abort_of c e)
-    unfolding step_of run_of missed_of
-    abort-set h = record { on = λ base ram old. tells _ (abort_of c e) Done 0 old old (rw (le-ltb 3 c.privilege.level (omega arith)) refl) refl refl }
+    unfolding step_of run_of run_work missed_of
+    abort-set h = record { on = λ base ram w. set-tells c base ram (Abort e) (abort_of c e) Done 0 w refl (rw (le-ltb 3 c.privilege.level (omega arith)) refl) refl refl refl }
 
     pub abort-high : 3 < c.privilege.level → Sets (Known (Abort e)) c 1 c
-    unfolding step_of run_of missed_of
-    abort-high h = record { on = λ base ram old. tells _ c (Refused 1) 1 old old (rw (lt-ltb 3 c.privilege.level h) refl) refl refl }
+    unfolding step_of run_of run_work missed_of
+    abort-high h = record { on = λ base ram w. set-tells c base ram (Abort e) c (Refused 1) 1 w refl (rw (lt-ltb 3 c.privilege.level h) refl) refl refl refl }

@@ -1,4 +1,4 @@
--- What a call on a core says: its number, its word, and the core that it leaves.
+-- What a call on a core says: its number, its report, and the core that it leaves.
 use Rattle.std.specs.Prelude.{if◌then◌else◌, ◌≡◌, ◌-◌, ◌^◌, ◌&&◌, nat_le, Bool, true, false, List, ℕ, length, Option, Some, None, Result, Ok, Err}
 use Rattle.cpu.specs.declared.Core.{Core}
 use Rattle.word.specs.Ram.{word_at}
@@ -15,29 +15,38 @@ use Rattle.cpu.specs.Replies.{translation, reaching}
 use Rattle.cpu.specs.declared.call.Reply.{Reply}
 use Rattle.cpu.specs.declared.call.Reply.TheVariants.{Refused}
 use Rattle.cpu.specs.Step.{Stepped, ends, refused_or, step_of, after_fetch, after_address}
-use Rattle.call_words.specs.Replies.{code_by, value_by}
+use Rattle.cpu.specs.Work.{read_work, write_work, zero_work, step_work}
+use Rattle.tlb.specs.Work.{no_work}
+use Rattle.tlb.specs.declared.work.Work.{Work}
+use Rattle.call_words.specs.Replies.{code_by, value_by, reads_by}
+use Rattle.call_words.specs.declared.reply.Report.{Report}
 use Rattle.call_words.specs.declared.op.DecodedCall.{DecodedCall}
 use Rattle.call_words.specs.declared.op.DecodedCall.TheVariants.{Known, Unknown}
 
--- the number n, the word v that was old, and the core d tell a step
-pub record Tells (s : Stepped) (old n v : ℕ) (d : Core) : Type 0 where
+-- the number n, the report that was old, and the core d tell a step that read w
+pub record Tells (s : Stepped) (w : Work) (old : Report) (n : ℕ) (new : Report) (d : Core) : Type 0 where
   pub number : n ≡ code_by s.reply
-  pub value : v ≡ value_by s.reply old
+  pub value : new.value ≡ value_by s.reply old.value
+  pub reads : new.reads ≡ reads_by s.reply w.reads old.reads
   pub core : d ≡ s.core
 
 -- 64 where words name no call, and nothing changes
-pub record Nothing (c : Core) (old n v : ℕ) (d : Core) : Type 0 where
+pub record Nothing (c : Core) (old : Report) (n : ℕ) (new : Report) (d : Core) : Type 0 where
   pub number : n ≡ 64
-  pub value : v ≡ old
+  pub report : new ≡ old
   pub core : d ≡ c
 
-abbrev pub Says : DecodedCall → Core → ℕ → List ℕ → ℕ → ℕ → ℕ → Core → Type 0
-Says (Known x) c base ram old n v d = Tells (step_of c base ram x) old n v d
-Says Unknown c base ram old n v d = Nothing c old n v d
+abbrev pub Says : DecodedCall → Core → ℕ → List ℕ → Report → ℕ → Report → Core → Type 0
+Says (Known x) c base ram old n new d = Tells (step_of c base ram x) (step_work c base ram x no_work) old n new d
+Says Unknown c base ram old n new d = Nothing c old n new d
 
--- a call that is handed neither RAM nor a word, whatever RAM stands there
+-- a report of a call that reads nothing
+abbrev pub unread : ℕ → Report
+unread v = record { value = v; reads = 0 }
+
+-- a call that is handed neither RAM nor a report, whatever RAM stands there: it has no value, and reads nothing
 pub record Sets (call : DecodedCall) (c : Core) (n : ℕ) (d : Core) : Type 0 where
-  pub on : (base : ℕ) (ram : List ℕ) (old : ℕ) → Says call c base ram old n old d
+  pub on : (base : ℕ) (ram : List ℕ) (v : ℕ) → Says call c base ram (unread v) n (unread v) d
 
 -- a call that is handed RAM and no more, by its checks and its operation
 abbrev pub ram_checked : Core → ℕ → List ℕ → Stepped → Stepped
@@ -90,19 +99,25 @@ fetch_ended false d a base ram va = after_address (reached_of d a)
 abbrev pub hint_left : Core → ℕ → Answer → Core
 hint_left d va a = with_tlb d (fetch_left d.privilege.level va a d.tlb)
 
--- AN ACCESS OF TWO PAGES by their hints
+-- AN ACCESS OF TWO PAGES by their hints: it reads no descriptor
 
 -- the first byte's place and the value of a load
 abbrev pub OfTwo : Core → ℕ → List ℕ → ℕ → ℕ → Option (ℕ × ℕ) → Type 0
-OfTwo c base ram va n (Some x) = record { core = record c { last_pa = x.0 }; answer = Ok x.1 } ≡ read_of c base ram va n
+OfTwo c base ram va n (Some x) =
+    (record { core = record c { last_pa = x.0 }; answer = Ok x.1 } ≡ read_of c base ram va n)
+    × (no_work ≡ read_work c base ram va n no_work)
 OfTwo c base ram va n None = Unit {0}
 
 -- whether a store is made, and the bytes after it
 abbrev pub PutTwo : Core → ℕ → List ℕ → ℕ → ℕ → ℕ → Bool → List ℕ → Type 0
-PutTwo c base ram va n v true ys = (record { core = c; answer = Ok tt } ≡ write_of c base ram va n) × (ys ≡ ram_after_write c base ram va n v)
+PutTwo c base ram va n v true ys =
+    (record { core = c; answer = Ok tt } ≡ write_of c base ram va n)
+    × (no_work ≡ write_work c base ram va n no_work)
+    × (ys ≡ ram_after_write c base ram va n v)
 PutTwo c base ram va n v false ys = ys ≡ ram
 
--- A LINE OF DC ZVA by its hint: whether it is cleared, and the bytes after it
+-- A LINE OF DC ZVA by its hint: whether it is cleared, with no descriptor read, and the bytes after it
 abbrev pub Cleared : Core → ℕ → List ℕ → ℕ → Bool → List ℕ → Type 0
-Cleared c base ram va true ys = (zero_of 8 c base ram va ≡ done_with c) × (ys ≡ zero_ram 8 c base ram va)
+Cleared c base ram va true ys =
+    (zero_of 8 c base ram va ≡ done_with c) × (no_work ≡ zero_work 8 c base ram va no_work) × (ys ≡ zero_ram 8 c base ram va)
 Cleared c base ram va false ys = ys ≡ ram

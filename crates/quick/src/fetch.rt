@@ -1,19 +1,23 @@
-// A fetch on a core that is lent, and where one goes: the number, and the instruction or the address in ans. Both are
-// one text: INSN says whether the instruction is read.
+// A fetch on a core that is lent, and where one goes: the number, and in ans the instruction or the address, and what
+// was read. Both are one text: INSN says whether the instruction is read.
 ghost use Rattle.std.specs.Prelude.{◌≡◌, None};
 ghost use Rattle.word.specs.Ram.{word_at};
 ghost use Rattle.tlb.specs.Hint.{fetch_found};
+ghost use Rattle.tlb.specs.Work.{no_work};
 ghost use Rattle.tlb.specs.declared.access.Kind.TheVariants.{Fetch};
 ghost use Rattle.cpu.specs.declared.call.Call.TheVariants as Call;
 ghost use Rattle.cpu.specs.Hand.{NeedsWalkNow};
 ghost use Rattle.cpu.specs.Step.{step_of, after_fetch};
+ghost use Rattle.cpu.specs.Work.{fetch_work, step_work};
 ghost use Rattle.quick.specs.Says.{Tells, fetched_of, hint_left, ram_checked, fetch_run, fetch_ended};
 
 use crate::translation;
+use call_words::reply::Report;
 use cpu::{Core, bytes, check};
 use fault::Fault;
 use tlb::access::Kind;
 use tlb::hint::FetchHint;
+use tlb::work::Work;
 
 // The end of a fetch, after its translation.
 #[inline(always)]
@@ -21,16 +25,18 @@ fn read(
     core: &mut Core,
     va: u64,
     answer: Result<u64, Fault>,
-    ans: &mut u64,
+    work: Work,
+    ans: &mut Report,
     base: u64,
     ram: &[u8],
 ) -> u64
-    ensures { Tells (after_fetch (fetched_of core.old answer base ram.now va)) ans.old result ans.new core.new }
+    ensures { Tells (after_fetch (fetched_of core.old answer base ram.now va)) work ans.old result ans.new core.new }
 {
+    ans.reads = work.reads;
     match answer {
         Ok(pa) => match bytes::insn_at(base, ram, pa) {
             Some(v) => {
-                *ans = v as u64;
+                ans.value = v as u64;
                 0
             }
             None => {
@@ -47,16 +53,17 @@ fn ended<const INSN: bool>(
     core: &mut Core,
     va: u64,
     answer: Result<u64, Fault>,
-    ans: &mut u64,
+    work: Work,
+    ans: &mut Report,
     base: u64,
     ram: &[u8],
 ) -> u64
-    ensures { Tells (fetch_ended INSN core.old answer base ram.now va) ans.old result ans.new core.new }
+    ensures { Tells (fetch_ended INSN core.old answer base ram.now va) work ans.old result ans.new core.new }
 {
     if INSN {
-        read(core, va, answer, ans, base, ram)
+        read(core, va, answer, work, ans, base, ram)
     } else {
-        translation::reached(answer, ans)
+        translation::reached(answer, work, ans)
     }
 }
 
@@ -73,42 +80,58 @@ fn leave(core: &mut Core, va: u64, answer: Result<u64, Fault>)
 
 // By a walk.
 #[inline(never)]
-fn by_walk<const INSN: bool>(core: &mut Core, va: u64, ans: &mut u64, base: u64, ram: &[u8]) -> u64
+fn by_walk<const INSN: bool>(
+    core: &mut Core,
+    va: u64,
+    ans: &mut Report,
+    base: u64,
+    ram: &[u8],
+) -> u64
     requires no_hint { fetch_found core.old.tlb.fetch core.old.privilege.level va ≡ None }
     requires needs_walk { NeedsWalkNow core.old (word_at base ram.now 8) va Fetch }
-    ensures { Tells (fetch_run INSN core.old base ram.now va) ans.old result ans.new core.new }
+    ensures { Tells (fetch_run INSN core.old base ram.now va)
+        (fetch_work core.old (word_at base ram.now 8) va no_work) ans.old result ans.new core.new }
 {
-    let answer = core.by_walk(base, ram, va, Kind::Fetch);
+    let mut work = Work::none();
+    let answer = core.by_walk(base, ram, va, Kind::Fetch, &mut work);
     leave(core, va, answer);
-    ended::<INSN>(core, va, answer, ans, base, ram)
+    ended::<INSN>(core, va, answer, work, ans, base, ram)
 }
 
 #[inline(never)]
 fn past_hint<const INSN: bool>(
     core: &mut Core,
     va: u64,
-    ans: &mut u64,
+    ans: &mut Report,
     base: u64,
     ram: &[u8],
 ) -> u64
     requires no_hint { fetch_found core.old.tlb.fetch core.old.privilege.level va ≡ None }
-    ensures { Tells (fetch_run INSN core.old base ram.now va) ans.old result ans.new core.new }
+    ensures { Tells (fetch_run INSN core.old base ram.now va)
+        (fetch_work core.old (word_at base ram.now 8) va no_work) ans.old result ans.new core.new }
 {
     match core.at_hand(base, ram, va, Kind::Fetch) {
         Some(answer) => {
             leave(core, va, answer);
-            ended::<INSN>(core, va, answer, ans, base, ram)
+            ended::<INSN>(core, va, answer, Work::none(), ans, base, ram)
         }
         None => by_walk::<INSN>(core, va, ans, base, ram),
     }
 }
 
 #[inline(always)]
-fn by_hint<const INSN: bool>(core: &mut Core, va: u64, ans: &mut u64, base: u64, ram: &[u8]) -> u64
-    ensures { Tells (fetch_run INSN core.old base ram.now va) ans.old result ans.new core.new }
+fn by_hint<const INSN: bool>(
+    core: &mut Core,
+    va: u64,
+    ans: &mut Report,
+    base: u64,
+    ram: &[u8],
+) -> u64
+    ensures { Tells (fetch_run INSN core.old base ram.now va)
+        (fetch_work core.old (word_at base ram.now 8) va no_work) ans.old result ans.new core.new }
 {
     match core.tlb.by_fetch_hint(core.privilege.level, va) {
-        Some(pa) => ended::<INSN>(core, va, Ok(pa), ans, base, ram),
+        Some(pa) => ended::<INSN>(core, va, Ok(pa), Work::none(), ans, base, ram),
         None => past_hint::<INSN>(core, va, ans, base, ram),
     }
 }
@@ -116,9 +139,15 @@ fn by_hint<const INSN: bool>(core: &mut Core, va: u64, ans: &mut u64, base: u64,
 // A level above 3, or a window that ends at 2^64 or past it: the checks by name.
 #[cold]
 #[inline(never)]
-fn checked<const INSN: bool>(core: &mut Core, va: u64, ans: &mut u64, base: u64, ram: &[u8]) -> u64
+fn checked<const INSN: bool>(
+    core: &mut Core,
+    va: u64,
+    ans: &mut Report,
+    base: u64,
+    ram: &[u8],
+) -> u64
     ensures { Tells (ram_checked core.old base ram.now (fetch_run INSN core.old base ram.now va))
-        ans.old result ans.new core.new }
+        (fetch_work core.old (word_at base ram.now 8) va no_work) ans.old result ans.new core.new }
 {
     match check::with_ram(core.privilege.level, base, ram.len() as u64) {
         Ok(()) => by_hint::<INSN>(core, va, ans, base, ram),
@@ -127,9 +156,9 @@ fn checked<const INSN: bool>(core: &mut Core, va: u64, ans: &mut u64, base: u64,
 }
 
 #[inline(always)]
-fn asked<const INSN: bool>(core: &mut Core, va: u64, ans: &mut u64, base: u64, ram: &[u8]) -> u64
+fn asked<const INSN: bool>(core: &mut Core, va: u64, ans: &mut Report, base: u64, ram: &[u8]) -> u64
     ensures { Tells (ram_checked core.old base ram.now (fetch_run INSN core.old base ram.now va))
-        ans.old result ans.new core.new }
+        (fetch_work core.old (word_at base ram.now 8) va no_work) ans.old result ans.new core.new }
 {
     if 3 < core.privilege.level {
         checked::<INSN>(core, va, ans, base, ram)
@@ -141,15 +170,17 @@ fn asked<const INSN: bool>(core: &mut Core, va: u64, ans: &mut u64, base: u64, r
 }
 
 /// The instruction at va.
-pub fn fetch(core: &mut Core, va: u64, ans: &mut u64, base: u64, ram: &[u8]) -> u64
-    ensures { Tells (step_of core.old base ram.now (Call.Fetch va)) ans.old result ans.new core.new }
+pub fn fetch(core: &mut Core, va: u64, ans: &mut Report, base: u64, ram: &[u8]) -> u64
+    ensures { Tells (step_of core.old base ram.now (Call.Fetch va))
+        (step_work core.old base ram.now (Call.Fetch va) no_work) ans.old result ans.new core.new }
 {
     asked::<true>(core, va, ans, base, ram)
 }
 
 /// Where a fetch of va goes, by the same hint, which a new page refreshes.
-pub fn fetch_pa(core: &mut Core, va: u64, ans: &mut u64, base: u64, ram: &[u8]) -> u64
-    ensures { Tells (step_of core.old base ram.now (Call.FetchPa va)) ans.old result ans.new core.new }
+pub fn fetch_pa(core: &mut Core, va: u64, ans: &mut Report, base: u64, ram: &[u8]) -> u64
+    ensures { Tells (step_of core.old base ram.now (Call.FetchPa va))
+        (step_work core.old base ram.now (Call.FetchPa va) no_work) ans.old result ans.new core.new }
 {
     asked::<false>(core, va, ans, base, ram)
 }

@@ -1,21 +1,24 @@
-// A store on a core that is lent: its number, RAM, and in ans the address of a data abort.
+// A store on a core that is lent: its number, RAM, and in ans the address of a data abort and what it read.
 ghost use Rattle.std.specs.Prelude.{◌≡◌, ◌≤◌, None};
 ghost use Rattle.word.specs.Ram.{word_at, bytes_in};
 ghost use Rattle.tlb.specs.Translate.{hint_in};
+ghost use Rattle.tlb.specs.Work.{no_work};
 ghost use Rattle.tlb.specs.declared.access.Kind.TheVariants.{Write};
 ghost use Rattle.cpu.specs.Place.{in_page};
 ghost use Rattle.cpu.specs.declared.call.Call.TheVariants as Call;
 ghost use Rattle.cpu.specs.Hand.{NeedsWalkNow};
 ghost use Rattle.cpu.specs.Memory.{write_of, ram_after_write};
 ghost use Rattle.cpu.specs.Step.{step_of, ram_after, after_store};
+ghost use Rattle.cpu.specs.Work.{write_work, step_work};
 ghost use Rattle.quick.specs.Says.{Tells, stored_of, put_of};
 
 use crate::instance::Datum;
 use crate::split;
-use call_words::reply;
+use call_words::reply::{self, Report};
 use cpu::{Core, check, place};
 use fault::Fault;
 use tlb::access::Kind;
+use tlb::work::Work;
 use word::ram;
 use word::ram::Width;
 
@@ -27,16 +30,17 @@ fn own(
     va: u64,
     width: Width,
     value: u64,
-    ans: &mut u64,
+    ans: &mut Report,
     base: u64,
     ram: &mut [u8],
 ) -> u64
     ensures tells { Tells (after_store (write_of core.old base ram.old va (bytes_in width)))
-        ans.old result ans.new core.new }
+        (write_work core.old base ram.old va (bytes_in width) no_work) ans.old result ans.new core.new }
     ensures ram { ram.new ≡ ram_after_write core.old base ram.old va (bytes_in width) value }
 {
-    let answer = core.write(base, ram, va, width, value);
-    reply::stored(answer, ans)
+    let mut work = Work::none();
+    let answer = core.write(base, ram, va, width, value, &mut work);
+    reply::stored(answer, work, ans)
 }
 
 // Any size, and a window that ends at 2^64 or past it: the checks by name.
@@ -47,11 +51,12 @@ fn checked(
     va: u64,
     size: u64,
     value: u64,
-    ans: &mut u64,
+    ans: &mut Report,
     base: u64,
     ram: &mut [u8],
 ) -> u64
-    ensures tells { Tells (step_of core.old base ram.old (Call.Store va size value)) ans.old result ans.new core.new }
+    ensures tells { Tells (step_of core.old base ram.old (Call.Store va size value))
+        (step_work core.old base ram.old (Call.Store va size value) no_work) ans.old result ans.new core.new }
     ensures ram { ram.new ≡ ram_after core.old base ram.old (Call.Store va size value) }
 {
     match check::sized(core.privilege.level, base, ram.len() as u64, size) {
@@ -66,15 +71,16 @@ fn pages<W: Datum>(
     core: &mut Core,
     va: u64,
     value: u64,
-    ans: &mut u64,
+    ans: &mut Report,
     base: u64,
     ram: &mut [u8],
 ) -> u64
     ensures tells { Tells (after_store (write_of core.old base ram.old va (bytes_in W.WIDTH)))
-        ans.old result ans.new core.new }
+        (write_work core.old base ram.old va (bytes_in W.WIDTH) no_work) ans.old result ans.new core.new }
     ensures ram { ram.new ≡ ram_after_write core.old base ram.old va (bytes_in W.WIDTH) value }
 {
     if split::store(core, va, W::WIDTH, value, base, ram) {
+        ans.reads = 0;
         return 0;
     }
     own(core, va, W::WIDTH, value, ans, base, ram)
@@ -86,27 +92,29 @@ fn ended<W: Datum>(
     core: &mut Core,
     va: u64,
     answer: Result<u64, Fault>,
+    work: Work,
     value: u64,
-    ans: &mut u64,
+    ans: &mut Report,
     base: u64,
     ram: &mut [u8],
 ) -> u64
-    ensures tells { Tells (after_store (stored_of core.old answer base ram.old va (bytes_in W.WIDTH)))
+    ensures tells { Tells (after_store (stored_of core.old answer base ram.old va (bytes_in W.WIDTH))) work
         ans.old result ans.new core.new }
     ensures ram { ram.new ≡ put_of answer base ram.old va (bytes_in W.WIDTH) value }
 {
+    ans.reads = work.reads;
     match answer {
         Ok(pa) => {
             if ram::write(base, ram, W::WIDTH, pa, value) {
                 0
             } else {
                 core.abort_pa = pa;
-                *ans = va;
+                ans.value = va;
                 272
             }
         }
         Err(fault) => {
-            *ans = va;
+            ans.value = va;
             256 + fault.fsc as u64
         }
     }
@@ -118,7 +126,7 @@ fn by_walk<W: Datum>(
     core: &mut Core,
     va: u64,
     value: u64,
-    ans: &mut u64,
+    ans: &mut Report,
     base: u64,
     ram: &mut [u8],
 ) -> u64
@@ -126,11 +134,12 @@ fn by_walk<W: Datum>(
     requires no_hint { hint_in core.old.privilege va Write core.old.tlb ≡ None }
     requires needs_walk { NeedsWalkNow core.old (word_at base ram.old 8) va Write }
     ensures tells { Tells (after_store (write_of core.old base ram.old va (bytes_in W.WIDTH)))
-        ans.old result ans.new core.new }
+        (write_work core.old base ram.old va (bytes_in W.WIDTH) no_work) ans.old result ans.new core.new }
     ensures ram { ram.new ≡ ram_after_write core.old base ram.old va (bytes_in W.WIDTH) value }
 {
-    let answer = core.by_walk(base, ram, va, Kind::Write);
-    ended::<W>(core, va, answer, value, ans, base, ram)
+    let mut work = Work::none();
+    let answer = core.by_walk(base, ram, va, Kind::Write, &mut work);
+    ended::<W>(core, va, answer, work, value, ans, base, ram)
 }
 
 #[inline(never)]
@@ -138,18 +147,18 @@ fn past_hint<W: Datum>(
     core: &mut Core,
     va: u64,
     value: u64,
-    ans: &mut u64,
+    ans: &mut Report,
     base: u64,
     ram: &mut [u8],
 ) -> u64
     requires near { bytes_in W.WIDTH ≤ in_page va }
     requires no_hint { hint_in core.old.privilege va Write core.old.tlb ≡ None }
     ensures tells { Tells (after_store (write_of core.old base ram.old va (bytes_in W.WIDTH)))
-        ans.old result ans.new core.new }
+        (write_work core.old base ram.old va (bytes_in W.WIDTH) no_work) ans.old result ans.new core.new }
     ensures ram { ram.new ≡ ram_after_write core.old base ram.old va (bytes_in W.WIDTH) value }
 {
     match core.at_hand(base, ram, va, Kind::Write) {
-        Some(answer) => ended::<W>(core, va, answer, value, ans, base, ram),
+        Some(answer) => ended::<W>(core, va, answer, Work::none(), value, ans, base, ram),
         None => by_walk::<W>(core, va, value, ans, base, ram),
     }
 }
@@ -159,19 +168,19 @@ fn by_hint<W: Datum>(
     core: &mut Core,
     va: u64,
     value: u64,
-    ans: &mut u64,
+    ans: &mut Report,
     base: u64,
     ram: &mut [u8],
 ) -> u64
     ensures tells { Tells (after_store (write_of core.old base ram.old va (bytes_in W.WIDTH)))
-        ans.old result ans.new core.new }
+        (write_work core.old base ram.old va (bytes_in W.WIDTH) no_work) ans.old result ans.new core.new }
     ensures ram { ram.new ≡ ram_after_write core.old base ram.old va (bytes_in W.WIDTH) value }
 {
     if place::in_page(va) < W::WIDTH.bytes() {
         return pages::<W>(core, va, value, ans, base, ram);
     }
     match core.tlb.by_hint(core.privilege, va, Kind::Write) {
-        Some(pa) => ended::<W>(core, va, Ok(pa), value, ans, base, ram),
+        Some(pa) => ended::<W>(core, va, Ok(pa), Work::none(), value, ans, base, ram),
         None => past_hint::<W>(core, va, value, ans, base, ram),
     }
 }
@@ -181,11 +190,12 @@ fn store_as<W: Datum>(
     core: &mut Core,
     va: u64,
     value: u64,
-    ans: &mut u64,
+    ans: &mut Report,
     base: u64,
     ram: &mut [u8],
 ) -> u64
     ensures tells { Tells (step_of core.old base ram.old (Call.Store va (bytes_in W.WIDTH) value))
+        (step_work core.old base ram.old (Call.Store va (bytes_in W.WIDTH) value) no_work)
         ans.old result ans.new core.new }
     ensures ram { ram.new ≡ ram_after core.old base ram.old (Call.Store va (bytes_in W.WIDTH) value) }
 {
@@ -204,11 +214,12 @@ pub fn store(
     va: u64,
     size: u64,
     value: u64,
-    ans: &mut u64,
+    ans: &mut Report,
     base: u64,
     ram: &mut [u8],
 ) -> u64
-    ensures tells { Tells (step_of core.old base ram.old (Call.Store va size value)) ans.old result ans.new core.new }
+    ensures tells { Tells (step_of core.old base ram.old (Call.Store va size value))
+        (step_work core.old base ram.old (Call.Store va size value) no_work) ans.old result ans.new core.new }
     ensures ram { ram.new ≡ ram_after core.old base ram.old (Call.Store va size value) }
 {
     if 4 < size {

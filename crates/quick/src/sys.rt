@@ -1,17 +1,20 @@
-// A system operation on a core that is lent: its number, RAM, and in ans the address of a data abort.
+// A system operation on a core that is lent: its number, RAM, and in ans the address of a data abort and what it read.
 ghost use Rattle.std.specs.Prelude.{◌≡◌, ◌+◌, ◌%◌, ◌^◌, ◌≤◌};
 ghost use Rattle.word.specs.Bits.{align_down};
+ghost use Rattle.tlb.specs.Work.{no_work};
 ghost use Rattle.cpu.specs.System.{tlbi_core, zero_of, zero_ram, sys_of, sys_ram};
 ghost use Rattle.cpu.specs.declared.call.Call.TheVariants as Call;
 ghost use Rattle.call_words.specs.Ops.{encoding_of};
 ghost use Rattle.cpu.specs.Step.{step_of, ram_after, after_store};
+ghost use Rattle.cpu.specs.Work.{zero_work, sys_work, step_work};
 ghost use Rattle.quick.specs.Says.{Tells, Cleared};
 
-use call_words::reply;
+use call_words::reply::{self, Report};
 use cpu::{Core, check};
 use system::decode;
 use system::decode::{Encoding, SysOp};
 use tlb::access::Kind;
+use tlb::work::Work;
 use word::ram;
 
 // 64 zero bytes at the line va by its page's hint, where it points at a line of RAM, and whether they are written.
@@ -27,16 +30,18 @@ fn clear(core: &Core, base: u64, ram: &mut [u8], va: u64) -> bool
 }
 
 // DC ZVA: by one hint, or by its eight stores.
-fn zva(core: &mut Core, ans: &mut u64, base: u64, ram: &mut [u8], x: u64) -> u64
+fn zva(core: &mut Core, ans: &mut Report, base: u64, ram: &mut [u8], x: u64) -> u64
     ensures tells { Tells (after_store (zero_of 8 core.old base ram.old (align_down x 6)))
-        ans.old result ans.new core.new }
+        (zero_work 8 core.old base ram.old (align_down x 6) no_work) ans.old result ans.new core.new }
     ensures ram { ram.new ≡ zero_ram 8 core.old base ram.old (align_down x 6) }
 {
     if clear(core, base, ram, x - x % 64) {
+        ans.reads = 0;
         return 0;
     }
-    let answer = core.zva(base, ram, x);
-    reply::stored(answer, ans)
+    let mut work = Work::none();
+    let answer = core.zva(base, ram, x, &mut work);
+    reply::stored(answer, work, ans)
 }
 
 // TLBI, out of line, so that its loop over the entries has the registers to itself.
@@ -48,24 +53,30 @@ fn tlbi(core: &mut Core, e: Encoding, x: u64)
 }
 
 // The operation past its checks.
-#[tactic(auto, unfolding(cpu::specs::System::sys_of, cpu::specs::System::sys_ram))]
-fn operate(core: &mut Core, e: Encoding, ans: &mut u64, base: u64, ram: &mut [u8]) -> u64
+#[tactic(auto, unfolding(cpu::specs::System::sys_of, cpu::specs::System::sys_ram, cpu::specs::Work::sys_work))]
+fn operate(core: &mut Core, e: Encoding, ans: &mut Report, base: u64, ram: &mut [u8]) -> u64
     ensures tells { Tells (after_store (sys_of core.old base ram.old e.op1 e.crn e.crm e.op2 e.rt))
-        ans.old result ans.new core.new }
+        (sys_work core.old base ram.old e.op1 e.crn e.crm e.op2 e.rt no_work) ans.old result ans.new core.new }
     ensures ram { ram.new ≡ sys_ram core.old base ram.old e.op1 e.crn e.crm e.op2 e.rt }
 {
     let x = core.reg(e.rt);
     match decode::decode(core.privilege.level, e) {
         SysOp::At(form) => {
-            core.at(base, ram, form, x);
+            let mut work = Work::none();
+            core.at(base, ram, form, x, &mut work);
+            ans.reads = work.reads;
             0
         }
         SysOp::Tlbi => {
             tlbi(core, e, x);
+            ans.reads = 0;
             0
         }
         SysOp::Zva => zva(core, ans, base, ram, x),
-        SysOp::Nothing => 0,
+        SysOp::Nothing => {
+            ans.reads = 0;
+            0
+        }
         SysOp::Undefined => 65,
         SysOp::Unimplemented => 66,
     }
@@ -79,11 +90,12 @@ pub fn system(
     crm: u64,
     op2: u64,
     rt: u64,
-    ans: &mut u64,
+    ans: &mut Report,
     base: u64,
     ram: &mut [u8],
 ) -> u64
     ensures tells { Tells (step_of core.old base ram.old (Call.System (encoding_of op1 crn crm op2 rt)))
+        (step_work core.old base ram.old (Call.System (encoding_of op1 crn crm op2 rt)) no_work)
         ans.old result ans.new core.new }
     ensures ram { ram.new ≡ ram_after core.old base ram.old (Call.System (encoding_of op1 crn crm op2 rt)) }
 {

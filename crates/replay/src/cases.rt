@@ -35,7 +35,13 @@ impl<W: Write> Replay<'_, W> {
     // A word of the core or of the last answer; 0 past the last.
     fn found(&self, place: u64) -> u64 {
         match place.checked_sub(ANSWER) {
-            Some(k) => self.answer.words().get(k as usize).copied().unwrap_or(0),
+            Some(k) => self
+                .performed
+                .answer
+                .words()
+                .get(k as usize)
+                .copied()
+                .unwrap_or(0),
             None => self.machine.word(place as usize),
         }
     }
@@ -59,7 +65,7 @@ impl<W: Write> Replay<'_, W> {
     // The answer that is due: its code, third and fourth word in one, and its second word.
     fn answered(&mut self, small: u64, value: u64) -> io::Result<()> {
         let [code, second, third, ..] = small.to_le_bytes().map(u64::from);
-        let words = self.answer.words();
+        let words = self.performed.answer.words();
         for ((place, is), want) in (ANSWER..).zip(words).zip([code, value, second, third]) {
             self.due(place, is, want)?;
         }

@@ -5,16 +5,17 @@ use crate::words::Words;
 use core_parts::read;
 use record_report::difference::Difference;
 use std::io::Write;
-use trace_core::machine::Machine;
-use trace_text::answer::Answer;
+use trace_core::machine::{Machine, Performed};
 use trace_text::line::Operation;
 
 /// How many words an operation's line has after the operation's own eight.
-pub const AFTER: usize = 30;
+pub const AFTER: usize = 31;
 
 // These words as the core has them, each with its name: the answer, parts of the core, the numbers of entries and
-// hints, and the digests, that of RAM last. A word that a later form adds is one more here.
-fn words_after(machine: &mut Machine, answer: Answer) -> [(&'static str, u64); AFTER] {
+// hints, the digests, that of RAM last, and the descriptors that the operation read. A word that a later form adds is
+// one more here.
+fn words_after(machine: &mut Machine, performed: Performed) -> [(&'static str, u64); AFTER] {
+    let Performed { answer, reads } = performed;
     let ram = machine.window_digest();
     let core = &machine.core;
     let [code, word1, word2, word3] = answer.words();
@@ -54,13 +55,14 @@ fn words_after(machine: &mut Machine, answer: Answer) -> [(&'static str, u64); A
         ("digest of entries", entries.digest),
         ("digest of hints", hints.digest),
         ("digest of RAM", ram),
+        ("descriptors read", reads),
     ]
 }
 
 impl<W: Write> Replay<'_, W> {
     // The first word that is not as recorded, by its place in the line and its name.
     fn first_wrong(&mut self, want: [u64; AFTER]) -> Option<Difference> {
-        let words = words_after(&mut self.machine, self.answer);
+        let words = words_after(&mut self.machine, self.performed);
         for ((word, (name, is)), want) in (8u64..).zip(words).zip(want) {
             if is != want {
                 return Some(Difference {
@@ -83,7 +85,7 @@ impl<W: Write> Replay<'_, W> {
         let mut want = [0; AFTER];
         words.fill(&mut want);
         let par = self.machine.core.sys.par_el1;
-        self.tally.note(operation, self.answer, par);
+        self.tally.note(operation, self.performed.answer, par);
         if let Some(difference) = self.first_wrong(want) {
             self.counts.wrong = self.counts.wrong.wrapping_add(1);
             write!(self.out, "{difference}")?;

@@ -34,9 +34,9 @@ fn brief(words: &mut Words<'_>, first: u64) -> [u64; 8] {
     short::words(first, a, b, c)
 }
 
-// The bytes `A72REC02`, and as many words to an operation as are read here.
+// The bytes `A72REC03`, and as many words to an operation as are read here.
 fn is_record(head: &[u64; 8]) -> bool {
-    head[0] == u64::from_le_bytes(*b"A72REC02") && head[6] == 8 + judge::AFTER as u64
+    head[0] == u64::from_le_bytes(*b"A72REC03") && head[6] == 8 + judge::AFTER as u64
 }
 
 impl<W: Write> Replay<'_, W> {
@@ -57,7 +57,7 @@ impl<W: Write> Replay<'_, W> {
         };
         match words::line_of(&op) {
             Some(Line::Operation(operation)) => {
-                self.answer = self.machine.perform(operation);
+                self.performed = self.machine.perform(operation);
                 self.counts.done = self.counts.done.wrapping_add(1);
                 if whole {
                     self.judge(words, &operation)?;

@@ -8,11 +8,14 @@ use std::alloc::{AllocError, Global};
 use std::io::{ErrorKind, Read, Write};
 use std::rt::Files;
 use std::{fs, io};
-use trace_core::machine::Machine;
+use trace_core::machine::{Machine, Performed};
 use trace_text::answer::Answer;
 
 // The last answer where there was none yet.
-const NOTHING: Answer = Answer::Reply(Reply::Done);
+const NOTHING: Performed = Performed {
+    answer: Answer::Reply(Reply::Done),
+    reads: 0,
+};
 
 /// A core on which records are replayed, and what they came to.
 #[derive(Drop)]
@@ -23,11 +26,12 @@ pub struct Replay<'a, W> {
     // how many records there were, and what they came to
     records: u64,
     total: Counts,
-    // of the record that is replayed: its lines, what it came to, its last case, and its last answer
+    // of the record that is replayed: its lines, what it came to, its last case, and what its last operation
+    // answered and read
     pub lines: u64,
     pub counts: Counts,
     pub case: Case,
-    pub answer: Answer,
+    pub performed: Performed,
 }
 
 // A file's bytes, up to where a read fails; nothing where it can't be opened.
@@ -53,7 +57,7 @@ impl<'a, W: Write> Replay<'a, W> {
             lines: 0,
             counts: Counts::default(),
             case: Case::default(),
-            answer: NOTHING,
+            performed: NOTHING,
         })
     }
 
@@ -63,7 +67,7 @@ impl<'a, W: Write> Replay<'a, W> {
         self.lines = 0;
         self.counts = Counts::default();
         self.case = Case::default();
-        self.answer = NOTHING;
+        self.performed = NOTHING;
     }
 
     /// A record by its name.

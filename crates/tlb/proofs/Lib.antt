@@ -8,5 +8,6 @@ pub mod Levels
 pub mod FlatLaws
 pub mod Misses
 pub mod Translations
+pub mod Works
 pub mod EveryRun
 pub mod Worked

@@ -3,7 +3,8 @@
 use Rattle.std.specs.Prelude.{ℕ, List, [], ◌∷◌, Ok, Err}
 use Rattle.tlb.specs.Model.{Access}
 use Rattle.tlb.specs.Translate.{translation_in, tlb_after, fetch_in, fetched_in}
-use Rattle.tlb.specs.declared.{access.Kind.Kind, Tlb.Tlb}
+use Rattle.tlb.specs.Work.{work_in, fetch_work_in}
+use Rattle.tlb.specs.declared.{access.Kind.Kind, work.Work.Work, Tlb.Tlb}
 use Rattle.tlb.specs.Answers.{Answer}
 use Rattle.tlb.specs.declared.access.Kind.TheVariants.{Fetch}
 
@@ -32,7 +33,7 @@ onward (Ok pa) x y = x
 onward (Err f) x y = y
 
 -- In a cache, by the accesses that registers, level and tables make of kinds and addresses: the answer to one
--- translation and the cache after it; the answers to a step's, and the cache after them.
+-- translation, the cache after it and what it did; the answers to a step's, the cache after them and what they did.
 module _ (access : Kind → ℕ → Access) where
   abbrev pub answer_of : Ask → Tlb → Answer
   answer_of (translates k va) t = (translation_in (access k va) t).answer
@@ -42,6 +43,11 @@ module _ (access : Kind → ℕ → Access) where
   tlb_ask (translates k va) t = tlb_after (access k va) t
   tlb_ask (fetches va) t = fetched_in (access Fetch va) t
 
+  -- what one translation did, and what a step's did
+  abbrev pub work_of : Ask → Tlb → Work → Work
+  work_of (translates k va) t w = work_in (access k va) t w
+  work_of (fetches va) t w = fetch_work_in (access Fetch va) t w
+
   abbrev pub answers : List Ask → Tlb → List Given
   answers [] t = []
   answers (a ∷ l) t = record { ask = a; answer = answer_of a t } ∷ onward (answer_of a t) (answers l (tlb_ask a t)) []
@@ -49,3 +55,7 @@ module _ (access : Kind → ℕ → Access) where
   abbrev pub tlb_asks : List Ask → Tlb → Tlb
   tlb_asks [] t = t
   tlb_asks (a ∷ l) t = onward (answer_of a t) (tlb_asks l (tlb_ask a t)) (tlb_ask a t)
+
+  abbrev pub works : List Ask → Tlb → Work → Work
+  works [] t w = w
+  works (a ∷ l) t w = onward (answer_of a t) (works l (tlb_ask a t) (work_of a t w)) (work_of a t w)

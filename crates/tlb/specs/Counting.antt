@@ -3,6 +3,8 @@
 use Rattle.std.specs.Prelude.{ℕ, ◌+◌, ◌/◌, ◌%◌, ◌^◌, Bool, true, false}
 use Rattle.tlb.specs.Model.{Slot, empty, holds, Line, Counters, Model, up, one_hit, one_walk, line_for, hint_place, knowing, Access}
 use Rattle.tlb.specs.Model.{hintable}
+use Rattle.tlb.specs.Work.{read_more}
+use Rattle.tlb.specs.declared.work.Work.{Work}
 
 -- by a hint, by the address alone where stage 1 is off, by a line, or by a walk, whether it faults or not
 pub data How : Type 0 where
@@ -17,6 +19,13 @@ how_counted hint_answered level k = k
 how_counted itself level k = k
 how_counted line_answered level k = one_hit level k
 how_counted walk_answered level k = one_walk level k
+
+-- the descriptors of its walk, n of them, are read by a walk alone
+abbrev pub how_work : How → ℕ → Work → Work
+how_work hint_answered n w = w
+how_work itself n w = w
+how_work line_answered n w = w
+how_work walk_answered n w = read_more n w
 
 abbrev pub how_looked : Bool → Slot Line → How
 how_looked false l = itself

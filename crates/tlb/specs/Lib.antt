@@ -9,6 +9,7 @@ pub mod Tlb
 pub mod Translate
 pub mod Model
 pub mod Live
+pub mod Work
 pub mod Hand
 pub mod Asks
 pub mod Maintenance

@@ -199,7 +199,8 @@ keep_fetch h m = record m { fetch = holds h }
 
 -- TRANSLATION
 
--- who asks for what, and what registers and tables say of the address: whether stage 1 is on, the regime, the untagged address, its walk
+-- who asks for what, and what registers and tables say of the address: whether stage 1 is on, the regime, the untagged address, its walk, and
+-- how many descriptors that reads
 pub record Access : Type 0 where
   pub privilege : Privilege
   pub kind : Kind
@@ -208,6 +209,7 @@ pub record Access : Type 0 where
   pub regime : Regime
   pub untagged : ℕ
   pub walk : Walked
+  pub reads : ℕ
 
 -- the physical page with the address's low twelve bits
 abbrev pub address_in : ℕ → ℕ → Answer

@@ -1,11 +1,12 @@
 -- One translation as a step of the cache: by its hint, by the entry of its page, by a walk; and what it leaves.
-use Rattle.std.specs.Prelude.{if◌then◌else◌, ℕ, Option, Some, None, slice_set, Ok, Err}
+use Rattle.std.specs.Prelude.{if◌then◌else◌, ℕ, length, Option, Some, None, slice_set, Ok, Err}
 use Rattle.fault.specs.First.{first}
 use Rattle.walk.specs.Answers.{Walked}
 use Rattle.walk.specs.Regime.{stage1_on}
 use Rattle.sysreg.specs.Regs.{regime_of}
 use Rattle.walk.specs.Tag.{untagged}
 use Rattle.walk.specs.Walk.{walk_of}
+use Rattle.walk.specs.Fetches.{fetches_of}
 use Rattle.walk.specs.declared.regime.Bank.{Bank}
 use Rattle.tlb.specs.Access.{tag_of, may_hint, user_of, judged, flat_answer}
 use Rattle.tlb.specs.Answers.{Answer, Outcome}
@@ -27,6 +28,7 @@ access_of s privilege va kind memory =
       regime = regime_of privilege.level;
       untagged = untagged s.tcr (regime_of privilege.level) va;
       walk = walk_of s (regime_of privilege.level) (untagged s.tcr (regime_of privilege.level) va) memory;
+      reads = length (fetches_of s (regime_of privilege.level) (untagged s.tcr (regime_of privilege.level) va) memory);
     }
 
 abbrev pub asked : Request → (ℕ → Option ℕ) → Access

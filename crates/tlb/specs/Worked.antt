@@ -28,6 +28,7 @@ access_by r level mark k va w =
       regime = r;
       untagged = va;
       walk = w;
+      reads = 3;
     }
 
 abbrev asked : Regime → ℕ → Bool → Kind → ℕ → Walked → Op

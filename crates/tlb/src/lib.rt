@@ -15,6 +15,7 @@ pub mod entry;
 pub mod hint;
 pub mod theorems;
 pub mod translate;
+pub mod work;
 
 const TLB_ENTRIES: usize = 1024;
 

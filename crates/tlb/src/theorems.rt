@@ -1,17 +1,18 @@
 // What holds of every cache. Each function computes nothing: its contract is the theorem.
-ghost use Rattle.std.specs.Prelude.{◌≡◌, ℕ, ◌≤◌, List, length, ◌≢◌};
+ghost use Rattle.std.specs.Prelude.{◌≡◌, ℕ, ◌+◌, ◌%◌, ◌^◌, ◌≤◌, true, false, List, length, Option, Some, None, ◌≢◌};
 ghost use Rattle.tlb.specs.Count.{hit_counted, walk_counted};
-ghost use Rattle.tlb.specs.Counting.{How, how_counted, how_translated, how_fetched, rust_counted, sums};
+ghost use Rattle.tlb.specs.Counting.{How, how_counted, how_work, how_translated, how_fetched, rust_counted, sums};
 ghost use Rattle.tlb.specs.Lists.{Each};
 ghost use Rattle.tlb.specs.Live.{counters_of, live, WellFormed, LeafLevel, Follows};
 ghost use Rattle.tlb.specs.Model.{Access, Counters, Model, empty_model, one_hit, one_walk};
 ghost use Rattle.tlb.specs.Model.{translate, fetch, invalidate, retag, broadcast};
 ghost use Rattle.tlb.specs.Runs.{Op, Fair, run, model_run};
-ghost use Rattle.tlb.specs.Translate.{translation_in, tlb_after, fetch_in, fetched_in};
-ghost use Rattle.tlb.specs.Tlb.{fresh, flush_of, invalidate_of, retag_of, broadcast_of};
+ghost use Rattle.tlb.specs.Translate.{tag_in, hint_in, translation_in, tlb_after, fetch_in, fetched_in};
+ghost use Rattle.tlb.specs.Work.{work_in, fetch_work_in};
+ghost use Rattle.tlb.specs.Tlb.{fresh, get_of, flush_of, invalidate_of, retag_of, broadcast_of};
 ghost use Rattle.tlb.specs.Worked.{WorkedRun, WorkedAtLevels, WorkedSlots, WorkedCovers};
 ghost use Rattle.tlb.specs.Worked.{WorkedRights, WorkedFetches, WorkedFlat, WorkedPending};
-ghost use Rattle.tlb.specs.declared.Tlb.{Tlb};
+ghost use Rattle.tlb.specs.declared.{Tlb.Tlb, entry.Entry.Entry, work.Work.Work};
 ghost use Rattle.tlb.specs.declared.Inval.{Inval};
 ghost use Rattle.tlb.specs.declared.Inval.TheVariants.{All};
 
@@ -65,6 +66,22 @@ pub fn counters_of_translations()
         → counters_of (hit_counted level t) ≡ one_hit level (counters_of t) }
     ensures walk { (t : Tlb) → length t.levels ≡ 4 → (level : ℕ) → level ≤ 3
         → counters_of (walk_counted level t) ≡ one_walk level (counters_of t) }
+{}
+
+// What a translation reads: by how the plain model answers it, the descriptors of its walk where it is walked, and
+// nothing by a hint, by an entry, or with stage 1 off. It rules out an entry hit that reports its walk's number again, a
+// walk that reports nothing, and a walk that is made where a hint or an entry serves.
+pub fn work_of_translations()
+    ensures translation { (a : Access) (t : Tlb) → WellFormed t → a.privilege.level ≤ 3 → (w : Work)
+        → work_in a t w ≡ how_work (how_translated a (live t)) a.reads w }
+    ensures fetch { (a : Access) (t : Tlb) → WellFormed t → a.privilege.level ≤ 3 → (w : Work)
+        → fetch_work_in a t w ≡ how_work (how_fetched a (live t)) a.reads w }
+    // said of an answer at hand, without the plain model
+    ensures at_hand { (a : Access) (t : Tlb) (w : Work)
+        → (a.on ≡ false → work_in a t w ≡ w) × ((pa : ℕ) → hint_in a.privilege a.va a.kind t ≡ Some pa → work_in a t w ≡ w)
+        × ((e : Entry) → get_of t (tag_in a) ≡ Some e → work_in a t w ≡ w) }
+    ensures walked { (a : Access) (t : Tlb) (w : Work) → a.on ≡ true → hint_in a.privilege a.va a.kind t ≡ None
+        → get_of t (tag_in a) ≡ None → (work_in a t w).reads ≡ (w.reads + a.reads) % 2 ^ 64 }
 {}
 
 // Worked runs, the same rows in numbers of the cache and of the plain model: a 2 MiB block and its invalidations,

@@ -2,12 +2,14 @@
 ghost use Rattle.std.specs.Prelude.{◌≡◌};
 ghost use Rattle.word.specs.Ram.{word_at};
 ghost use Rattle.tlb.specs.Translate.{asked, hint_left, hint_in, walked_in, past_hint_in};
+ghost use Rattle.tlb.specs.Work.{read_more};
 ghost use Rattle.tlb.specs.Hand.{Handed, AfterHanded, NeedsWalk};
 
 use crate::Tlb;
 use crate::access::{self, Kind, Privilege, Request};
 use crate::entry::Entry;
 use crate::hint::{self, Hint};
+use crate::work::Work;
 use fault::Fault;
 use sysreg::regs::Regime;
 
@@ -38,7 +40,7 @@ impl Tlb {
     /// The answer of a translation that no hint serves, where no walk is needed: with stage 1 off by the address
     /// alone, or by the entry of its page. It leaves a hint, where one may serve. RAM is read by no code here.
     #[inline(always)]
-    #[tactic(auto, unfolding(crate::specs::Translate::miss_in))]
+    #[tactic(auto, unfolding(crate::specs::Translate::miss_in, crate::specs::Work::needs_walk))]
     pub fn at_hand(&mut self, a: Request, base: u64, ram: &[u8]) -> Option<Result<u64, Fault>>
         ensures answer { Handed (asked a (word_at base ram.now 8)) self.old result }
         ensures after { AfterHanded (asked a (word_at base ram.now 8)) self.old result self.new }
@@ -61,22 +63,31 @@ impl Tlb {
     }
 
     /// A translation by a walk, whatever is at hand: where a walk is needed, the translation. A leaf becomes an entry
-    /// and is judged, a fault makes none. It leaves a hint, where one may serve.
+    /// and is judged, a fault makes none. It leaves a hint, where one may serve; what was read counts in `work`.
     #[inline(always)]
     #[tactic(auto, unfolding(crate::specs::Translate::walked_in))]
-    pub fn by_walk(&mut self, a: Request, base: u64, ram: &[u8]) -> Result<u64, Fault>
+    pub fn by_walk(
+        &mut self,
+        a: Request,
+        base: u64,
+        ram: &[u8],
+        work: &mut Work,
+    ) -> Result<u64, Fault>
         ensures walked { result
             ≡ (walked_in (asked a (word_at base ram.now 8)).walk (asked a (word_at base ram.now 8)) self.old).answer }
         ensures answer { NeedsWalk (asked a (word_at base ram.now 8)) self.old
             → result ≡ (past_hint_in (asked a (word_at base ram.now 8)) self.old).answer }
         ensures after { NeedsWalk (asked a (word_at base ram.now 8)) self.old
             → self.new ≡ (past_hint_in (asked a (word_at base ram.now 8)) self.old).after }
+        ensures work { work.new ≡ read_more (asked a (word_at base ram.now 8)).reads work.old }
     {
         let regime = Regime::of_level(a.privilege.level);
         let va = a.bank.untag(regime, a.va);
         self.count_walk(a.privilege.level);
         let bank = a.bank;
-        let leaf = bank.walk(regime, va, base, ram).map_err(fault::first)?;
+        let walked = bank.walk(regime, va, base, ram);
+        work.add_reads(walked.reads);
+        let leaf = walked.end.map_err(fault::first)?;
         let e = Entry::new(leaf, self.asid, access::tag_of(regime, va));
         self.put(e);
         let answer = e.judge(a.privilege.is_user(regime, a.kind), a.kind, a.va);

@@ -1,14 +1,18 @@
-//! A call on the core, by the function that C calls, and its reply.
+//! A call on the core, by the function that C calls, its reply, and the descriptors that it read.
 ghost use Rattle.std.specs.Prelude.{◌≡◌, ◌%◌};
 ghost use Rattle.fault.specs.First.{first};
+ghost use Rattle.tlb.specs.Work.{no_work};
 ghost use Rattle.cpu.specs.Step.{ram_after, step_of};
+ghost use Rattle.cpu.specs.Work.{step_work};
 ghost use Rattle.trace_core.specs.Told.{data_told, insn_told, told};
 
+use call_words::reply::Report;
 use core_calls::memory;
 use cpu::Core;
 use cpu::call::{Call, Reply};
 use exception::kind::{DataAbort, Exception, InsnAbort, Stop};
 use fault::Fault;
+use tlb::work::Work;
 
 // The fault of a call that gave the number n: 256 and its status.
 fn fault_of(n: u64) -> Fault
@@ -42,22 +46,30 @@ fn reply(n: u64, done: Reply, faulted: Reply) -> Reply
     }
 }
 
-/// Carries out a call, by the function that C calls where it has one for it. Core, RAM and reply are those of the
-/// definition: a number tells the status whole, since that is a byte of every core (`fits`).
-#[tactic(auto, unfolding(call_words::specs::Ops::translate_call), using(crate::proofs::Told::told_translation, crate::proofs::Told::told_data_pa, crate::proofs::Told::told_fetch_pa, crate::proofs::Told::told_load, crate::proofs::Told::told_store, crate::proofs::Told::told_fetch))]
-pub fn carry_out(core: &mut Core, base: u64, ram: &mut [u8], call: Call) -> Reply
-    ensures reply { result ≡ (step_of core.old base ram.old call).reply }
+/// What a call replied, and the descriptors that its walks read.
+#[derive(Clone, Copy)]
+pub struct Carried {
+    pub reply: Reply,
+    pub reads: u64,
+}
+
+/// Carries out a call, by the function that C calls where it has one for it. Core, RAM, reply and reads are those of the
+/// definitions: a number tells the status whole, since that is a byte of every core (`fits`).
+#[tactic(auto, unfolding(call_words::specs::Ops::translate_call), using(crate::proofs::Told::told_translation, crate::proofs::Told::told_data_pa, crate::proofs::Told::told_fetch_pa, crate::proofs::Told::told_load, crate::proofs::Told::told_store, crate::proofs::Told::told_fetch, crate::proofs::Told::reads_translation, crate::proofs::Told::reads_data_pa, crate::proofs::Told::reads_fetch_pa, crate::proofs::Told::reads_load, crate::proofs::Told::reads_store, crate::proofs::Told::reads_fetch))]
+pub fn carry_out(core: &mut Core, base: u64, ram: &mut [u8], call: Call) -> Carried
+    ensures reply { result.reply ≡ (step_of core.old base ram.old call).reply }
+    ensures reads { result.reads ≡ (step_work core.old base ram.old call no_work).reads }
     ensures core { core.new ≡ (step_of core.old base ram.old call).core }
     ensures ram { ram.new ≡ ram_after core.old base ram.old call }
 {
     saved::ranges::fits(core);
-    let mut value = 0;
-    match call {
+    let mut report = Report { value: 0, reads: 0 };
+    let reply = match call {
         Call::Translate(kind, va) => {
-            let n = memory::translate(core, va, u64::from(kind), &mut value, base, ram);
+            let n = memory::translate(core, va, u64::from(kind), &mut report, base, ram);
             reply(
                 n,
-                Reply::Value(value),
+                Reply::Value(report.value),
                 Reply::Fault {
                     addr: va,
                     fault: fault_of(n),
@@ -65,25 +77,35 @@ pub fn carry_out(core: &mut Core, base: u64, ram: &mut [u8], call: Call) -> Repl
             )
         }
         Call::DataPa(va) => {
-            let n = memory::data_pa(core, va, &mut value, base, ram);
-            reply(n, Reply::Value(value), Reply::Faults)
+            let n = memory::data_pa(core, va, &mut report, base, ram);
+            reply(n, Reply::Value(report.value), Reply::Faults)
         }
         Call::FetchPa(va) => {
-            let n = memory::fetch_pa(core, va, &mut value, base, ram);
-            reply(n, Reply::Value(value), Reply::Faults)
+            let n = memory::fetch_pa(core, va, &mut report, base, ram);
+            reply(n, Reply::Value(report.value), Reply::Faults)
         }
         Call::Load(va, size) => {
-            let n = memory::load(core, va, size, &mut value, base, ram);
-            reply(n, Reply::Value(value), data_abort(n, value, false))
+            let n = memory::load(core, va, size, &mut report, base, ram);
+            let fault = data_abort(n, report.value, false);
+            reply(n, Reply::Value(report.value), fault)
         }
         Call::Store(va, size, stored) => {
-            let n = memory::store(core, va, size, stored, &mut value, base, ram);
-            reply(n, Reply::Done, data_abort(n, value, true))
+            let n = memory::store(core, va, size, stored, &mut report, base, ram);
+            reply(n, Reply::Done, data_abort(n, report.value, true))
         }
         Call::Fetch(va) => {
-            let n = memory::fetch(core, va, &mut value, base, ram);
-            reply(n, Reply::Value(value), insn_abort(n, va))
+            let n = memory::fetch(core, va, &mut report, base, ram);
+            reply(n, Reply::Value(report.value), insn_abort(n, va))
         }
-        _ => core.step(base, ram, call),
+        _ => {
+            let mut work = Work::none();
+            let reply = core.step(base, ram, call, &mut work);
+            report.reads = work.reads;
+            reply
+        }
+    };
+    Carried {
+        reply,
+        reads: report.reads,
     }
 }

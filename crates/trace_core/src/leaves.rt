@@ -15,7 +15,7 @@ fn value(value: u64) -> Answer {
 }
 
 fn walk_of(bank: Bank, r: Regime, va: u64, base: u64, ram: &[u8]) -> Answer {
-    match bank.walk(r, va, base, ram) {
+    match bank.walk(r, va, base, ram).end {
         Ok(leaf) => Answer::Leaf(leaf),
         Err(status) => {
             let fault = fault::first(status);

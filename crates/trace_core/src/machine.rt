@@ -1,4 +1,5 @@
 //! The core, its window of RAM, and what a trace's lines do to them.
+use crate::calls::Carried;
 use crate::{calls, edits, leaves, memory};
 use core_calls::inspect;
 use cpu::Core;
@@ -10,6 +11,28 @@ use std::alloc::{AllocError, Global};
 use trace_text::answer::Answer;
 use trace_text::line::{Operation, Setup};
 use word::ram;
+
+/// What an operation answered, and the descriptors that its walks read: 0 of one that does not report them.
+#[derive(Clone, Copy)]
+pub struct Performed {
+    pub answer: Answer,
+    pub reads: u64,
+}
+
+impl From<Answer> for Performed {
+    fn from(answer: Answer) -> Self {
+        Performed { answer, reads: 0 }
+    }
+}
+
+impl From<Carried> for Performed {
+    fn from(carried: Carried) -> Self {
+        Performed {
+            answer: Answer::Reply(carried.reply),
+            reads: carried.reads,
+        }
+    }
+}
 
 /// A core, and its window of RAM.
 #[derive(Drop)]
@@ -80,22 +103,25 @@ impl Machine {
     }
 
     /// Carries out an operation.
-    pub fn perform(&mut self, operation: Operation) -> Answer {
+    pub fn perform(&mut self, operation: Operation) -> Performed {
         if operation.moves_ram() {
             self.digest = None;
         }
         match operation {
-            Operation::Call(Call::Census(first, pages)) => self.census(first, pages),
+            Operation::Call(Call::Census(first, pages)) => Performed::from(self.census(
+                first, pages,
+            )),
             Operation::Call(call) => {
                 let ram = self.ram.as_mut_slice();
-                Answer::Reply(calls::carry_out(&mut self.core, self.base, ram, call))
+                Performed::from(calls::carry_out(&mut self.core, self.base, ram, call))
             }
             Operation::Leaf(leaf) => {
-                leaves::answer(&self.core, leaf, self.base, self.ram.as_slice())
+                let ram = self.ram.as_slice();
+                Performed::from(leaves::answer(&self.core, leaf, self.base, ram))
             }
             Operation::Poke(poke) => {
                 edits::poke(self, poke);
-                Answer::Reply(Reply::Done)
+                Performed::from(Answer::Reply(Reply::Done))
             }
         }
     }

@@ -126,7 +126,7 @@ impl Auditor {
         if let Some(what) = what {
             self.drops.push(Invalidation { line, what })?;
         }
-        Ok(machine.perform(Operation::Call(call)))
+        Ok(machine.perform(Operation::Call(call)).answer)
     }
 
     // DC ZVA: eight stores, up to the first that is not done.

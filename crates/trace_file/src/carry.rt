@@ -1,18 +1,42 @@
-//! What a command does with each line of a trace: it is shown, carried out in silence, or audited.
+//! What a command does with each line of a trace: it is shown, carried out in silence, counted, or audited.
 use crate::auditor::Auditor;
 use crate::kept::Cause;
 use crate::report::Trouble;
 use crate::show;
+use reads_report::named;
+use reads_report::pages::Pages;
+use std::alloc::Global;
 use std::io;
 use std::io::Write;
 use trace_core::machine::Machine;
-use trace_text::line::Line;
+use trace_text::expected::Expected;
+use trace_text::line::{Line, Operation, Setup};
+
+/// A line of a trace, by its number from 1, and what it expects to be read.
+#[derive(Clone, Copy)]
+pub struct Numbered {
+    pub number: u64,
+    pub line: Line,
+    pub expected: Option<Expected>,
+}
+
+impl Numbered {
+    // What was read is what the line expects.
+    fn hold(&self, reads: u64) -> Result<(), Trouble> {
+        match self.expected {
+            Some(expected) if expected.reads != reads => {
+                Err(Trouble::Reads(self.number, expected, reads))
+            }
+            _ => Ok(()),
+        }
+    }
+}
 
 /// What carries out lines.
 pub trait Carrier {
-    /// A line of a number is carried out on the machine; false where the lines after it are of no interest. Of a line
-    /// that loads a file the bytes are in the window already.
-    fn line(&mut self, number: u64, line: Line, machine: &mut Machine) -> Result<bool, Trouble>;
+    /// A line is carried out on the machine; false where the lines after it are of no interest. Of a line that loads a
+    /// file the bytes are in the window already.
+    fn line(&mut self, line: Numbered, machine: &mut Machine) -> Result<bool, Trouble>;
 }
 
 /// Each operation gets a line of output.
@@ -25,6 +49,20 @@ pub struct Shown<'a, W> {
 /// Nothing is said.
 #[derive(Clone, Copy)]
 pub struct Silent;
+
+/// Nothing is said; what each operation reads is counted at its page.
+#[derive(Drop)]
+pub struct Counted {
+    pub pages: Pages,
+}
+
+impl Counted {
+    pub fn new(alloc: Global) -> Self {
+        Counted {
+            pages: Pages::new(alloc),
+        }
+    }
+}
 
 /// Each access is held to a walk made now.
 #[derive(Drop)]
@@ -48,28 +86,59 @@ fn perform(line: Line, machine: &mut Machine) -> Result<(), Trouble> {
 }
 
 impl<W: Write> Carrier for Shown<'_, W> {
-    fn line(&mut self, number: u64, line: Line, machine: &mut Machine) -> Result<bool, Trouble> {
-        let Line::Operation(operation) = line else {
-            perform(line, machine)?;
+    fn line(&mut self, line: Numbered, machine: &mut Machine) -> Result<bool, Trouble> {
+        let Line::Operation(operation) = line.line else {
+            perform(line.line, machine)?;
+            line.hold(0)?;
             return Ok(true);
         };
-        let answer = machine.perform(operation);
-        show::operation(self.out, self.form, number, &operation, answer, machine).map_err(
-            Trouble::Output,
-        )?;
+        let performed = machine.perform(operation);
+        show::operation(
+            self.out,
+            self.form,
+            line.number,
+            &operation,
+            performed,
+            machine,
+        )
+        .map_err(Trouble::Output)?;
+        line.hold(performed.reads)?;
         Ok(true)
     }
 }
 
 impl Carrier for Silent {
-    fn line(&mut self, _: u64, line: Line, machine: &mut Machine) -> Result<bool, Trouble> {
-        perform(line, machine)?;
+    fn line(&mut self, line: Numbered, machine: &mut Machine) -> Result<bool, Trouble> {
+        perform(line.line, machine)?;
+        Ok(true)
+    }
+}
+
+impl Carrier for Counted {
+    fn line(&mut self, line: Numbered, machine: &mut Machine) -> Result<bool, Trouble> {
+        match line.line {
+            Line::Operation(Operation::Call(call)) => {
+                let page = named::page(&machine.core, call);
+                let reads = machine.perform(Operation::Call(call)).reads;
+                if let Some(page) = page {
+                    if reads != 0 {
+                        self.pages.note(page, reads)?;
+                    }
+                }
+            }
+            Line::Setup(Setup::Fresh) => {
+                self.pages.clear();
+                perform(line.line, machine)?;
+            }
+            _ => perform(line.line, machine)?,
+        }
         Ok(true)
     }
 }
 
 impl<W: Write> Carrier for Audited<'_, W> {
-    fn line(&mut self, number: u64, line: Line, machine: &mut Machine) -> Result<bool, Trouble> {
+    fn line(&mut self, line: Numbered, machine: &mut Machine) -> Result<bool, Trouble> {
+        let Numbered { number, line, .. } = line;
         self.auditor
             .line(self.out, machine, Cause { number, line })
             .map_err(Trouble::Output)?;

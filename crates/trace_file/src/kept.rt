@@ -53,7 +53,7 @@ impl Kept {
         let same = bank.stage1_on(self.regime)
             && is_same(
                 &self.leaf,
-                bank.walk(self.regime, self.page << 12, base, ram),
+                bank.walk(self.regime, self.page << 12, base, ram).end,
             );
         self.changed = match self.changed {
             _ if same => None,
@@ -134,7 +134,7 @@ impl Keeping {
             (Source::Hint, Ask::Translates(kind, _)) => at(&self.hints, hint::data_slot(va, kind)),
             (Source::Entry, _) => at(&self.entries, slot),
             (Source::Walk, _) => {
-                let leaf = bank.walk(regime, untagged, base, ram).ok()?;
+                let leaf = bank.walk(regime, untagged, base, ram).end.ok()?;
                 let kept = Some(Kept {
                     by: line,
                     regime,

@@ -1,5 +1,5 @@
 //! A trace line by line, from a file or from standard input: checked, and then carried out as a command asks.
-use crate::carry::Carrier;
+use crate::carry::{Carrier, Numbered};
 use crate::load;
 use crate::load::Image;
 use crate::report::Trouble;
@@ -7,9 +7,10 @@ use std::io::{BufRead, BufReader, Input, Read, Seek};
 use std::rt::Files;
 use std::{fs, io};
 use trace_core::machine::Machine;
+use trace_text::expected::Expected;
 use trace_text::line::Line;
-use trace_text::parse;
 use trace_text::reason::{Reason, Refusal};
+use trace_text::{expected, parse};
 
 // No trace has more lines.
 const LINES: u64 = 1_000_000_000;
@@ -38,16 +39,29 @@ fn next_line<B: BufRead>(reader: &mut B, line: &mut Vec<u8>) -> io::Result<bool>
 }
 
 // What a line's bytes mean, if they mean anything.
-fn parsed(number: u64, bytes: &[u8]) -> Result<Option<Line>, Trouble> {
-    let line = if LONGEST < bytes.len() {
-        Err(Refusal {
+fn meaning(bytes: &[u8]) -> Result<Option<(Line, Option<Expected>)>, Refusal> {
+    if LONGEST < bytes.len() {
+        return Err(Refusal {
             column: 1,
             reason: Reason::LongLine,
-        })
-    } else {
-        parse::parse(bytes)
-    };
-    line.map_err(|refusal| Trouble::Line(number, refusal))
+        });
+    }
+    match parse::parse(bytes)? {
+        Some(line) => Ok(Some((line, expected::reads(bytes)?))),
+        None => Ok(None),
+    }
+}
+
+fn parsed(number: u64, bytes: &[u8]) -> Result<Option<Numbered>, Trouble> {
+    match meaning(bytes) {
+        Ok(Some((line, expected))) => Ok(Some(Numbered {
+            number,
+            line,
+            expected,
+        })),
+        Ok(None) => Ok(None),
+        Err(refusal) => Err(Trouble::Line(number, refusal)),
+    }
 }
 
 // All lines of a reader that stands at a trace's start are read, and none is carried out.
@@ -56,7 +70,8 @@ fn check<R: Files, B: BufRead>(rt: &R, reader: &mut B, bytes: &mut Vec<u8>) -> R
         if !next_line(reader, bytes).map_err(Trouble::File)? {
             return Ok(());
         }
-        if let Some(Line::Load(from)) = parsed(before + 1, bytes.as_slice())? {
+        let line = parsed(before + 1, bytes.as_slice())?;
+        if let Some(Line::Load(from)) = line.map(|line| line.line) {
             load::check(rt, before + 1, bytes.as_slice(), from)?;
         }
     }
@@ -79,10 +94,10 @@ fn carry_out<R: Files, B: BufRead, C: Carrier>(
         let Some(line) = parsed(number, bytes.as_slice())? else {
             continue;
         };
-        if let Line::Load(from) = line {
+        if let Line::Load(from) = line.line {
             load::line(rt, number, bytes.as_slice(), from, machine)?;
         }
-        if !carrier.line(number, line, machine)? {
+        if !carrier.line(line, machine)? {
             return Ok(());
         }
     }

@@ -1,4 +1,5 @@
-//! A line of output for an operation: its number in the trace, the operation, the answer, and the core after it.
+//! A line of output for an operation: its number in the trace, the operation, the answer, the descriptors
+//! that its walks read, and the core after it.
 use crate::words;
 use core_parts::read;
 use counters_report::line::Levels;
@@ -6,8 +7,7 @@ use cpu::Core;
 use digest::parts;
 use std::io;
 use std::io::Write;
-use trace_core::machine::Machine;
-use trace_text::answer::Answer;
+use trace_core::machine::{Machine, Performed};
 use trace_text::line::Operation;
 
 // What the cache counted, and what is pending for the other cores.
@@ -58,9 +58,9 @@ fn whole<W: Write>(out: &mut W, machine: &mut Machine) -> io::Result<()> {
 /// What a line of output says.
 #[derive(Clone, Copy, PartialEq, Eq)]
 pub enum Form {
-    /// the operation, its answer and the core after it
+    /// the operation, its answer, what it read and the core after it
     Whole,
-    /// the operation and its answer: no digest of the window is taken
+    /// the same without the core: no digest of the window is taken
     Short,
     /// the same, and below it what that says in the manual's words
     Words,
@@ -72,10 +72,14 @@ pub fn operation<W: Write>(
     form: Form,
     number: u64,
     operation: &Operation,
-    answer: Answer,
+    performed: Performed,
     machine: &mut Machine,
 ) -> io::Result<()> {
+    let Performed { answer, reads } = performed;
     write!(out, "{number} {operation} => {answer}")?;
+    if operation.reports() {
+        write!(out, " rd={reads:x}")?;
+    }
     match form {
         Form::Whole => whole(out, machine),
         Form::Short => writeln!(out),

@@ -116,6 +116,22 @@ pub fn zeroes_block(at: &Encoding) -> bool {
 }
 
 impl Operation {
+    /// Whether the descriptors that its walks read stand beside its answer.
+    pub fn reports(&self) -> bool {
+        matches!(
+            self,
+            Operation::Call(
+                Call::Translate(..)
+                    | Call::DataPa(_)
+                    | Call::FetchPa(_)
+                    | Call::Load(..)
+                    | Call::Store(..)
+                    | Call::Fetch(_)
+                    | Call::System(_)
+            )
+        )
+    }
+
     /// Whether it may change the window.
     pub fn moves_ram(&self) -> bool {
         match self {

@@ -174,7 +174,7 @@ module _ (b : Bare) (m : Ram) (ms : List Ram) (u : Model) where
   steps-none (System e) q = sys-none (op_in b e) e q
   steps-none _ q = refl
 
-  events-none : (x : Call) → translates_nothing b x ≡ true → made_run real (plain_in b) (events_in b m ms x) u ≡ []
+  pub events-none : (x : Call) → translates_nothing b x ≡ true → made_run real (plain_in b) (events_in b m ms x) u ≡ []
   events-none x q = go (ruling_in b m x)
     where
       go : (r : Ruling) → made_run real (plain_in b) (if_allowed r (steps_in b m ms x) (steps m idle ∷ [])) u ≡ []
@@ -182,7 +182,7 @@ module _ (b : Bare) (m : Ram) (ms : List Ram) (u : Model) where
       go _ = refl
 
 -- a refused call makes none either
-refused_none : (b : Bare) (m : Ram) (ms : List Ram) (u : Model) (x : Call) → (ruling_in b m x ≡ allowed → ⊥)
+pub refused_none : (b : Bare) (m : Ram) (ms : List Ram) (u : Model) (x : Call) → (ruling_in b m x ≡ allowed → ⊥)
     → made_run real (plain_in b) (events_in b m ms x) u ≡ []
 refused_none b m ms u x not = go (ruling_in b m x) refl
   where

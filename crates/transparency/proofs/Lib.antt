@@ -16,6 +16,8 @@ pub mod Faults
 pub mod ModelCalls
 pub mod Counted
 pub mod LevelCounts
+pub mod CallWork
+pub mod CallReads
 -- The bytes, and a worked list.
 pub mod Bytes
 pub mod Worked

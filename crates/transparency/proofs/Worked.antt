@@ -3,7 +3,7 @@
 use Rattle.std.specs.Prelude.{◌≡◌, refl, true, false, List, [], ◌∷◌, ℕ, Ok, Err}
 use Rattle.std.proofs.Common.{sym, ap, subst, ◌∙◌, true≢false, arith}
 use Rattle.std.proofs.lemmas.Bool.{false≢true}
-use Rattle.word.specs.Ram.{word_at, little_endian, bytes_of}
+use Rattle.word.specs.Ram.{word_at, little_endian, bytes_of, stored}
 use Rattle.sysreg.specs.Regs.{fresh_control, fresh_sys}
 use Rattle.sysreg.specs.Encoding.{banked_at, register_at}
 use Rattle.sysreg.specs.Write.{control_with, sys_with, write_reg}
@@ -60,6 +60,15 @@ use Rattle.transparency.proofs.Claim.{settled-in-theory, settled-in-claim}
 use Rattle.transparency.proofs.Steps.{Apart}
 use Rattle.transparency.specs.Worked.{table, lent, none, old, new, start, tidied, steps_of}
 use Rattle.transparency.specs.Worked as Statement
+use Rattle.cpu.specs.Ends.{store_end, store_ram_end}
+use Rattle.cpu.specs.Place.{verdict_of}
+use Rattle.cpu.specs.Bytes.{store_ram}
+use Rattle.cpu.specs.Work.{translate_work, access_work, zero_work, at_work, sys_work, run_work, step_work}
+use Rattle.walk.specs.Fetches.{fetches_from, fetches_range, fetches_of, fresh_reads}
+use Rattle.tlb.specs.Work.{needs_walk}
+use Rattle.cpu.specs.System.{with_par, at_of, zero_of}
+use Rattle.cpu.specs.Memory.{located_now, read_of, write_of, ram_after_write}
+use Rattle.cpu.specs.Translations.{located_of}
 
 abbrev block : ℕ → ℕ → Leaf
 block oa desc = record { oa = oa; desc = desc; perms = 0x3C; level = 1; global = true }
@@ -213,3 +222,13 @@ unfolding step_of run_of translate_of stepped_now fetch_pa_of fetch_stepped_now 
     flush_of get_of put_of miss_in walked_in judged walk_of table_walk walk_range walk_from lookup_next level_next leaf_result
     leaf_translation leaf_permissions table_next descaddr range_of params_of pa_size untagged word_at little_endian bytes_of place_of blanks no_hints no_tallies
 counted-by-level = refl
+
+pub worked-reads : Statement.worked_reads
+unfolding step_of run_of step_work run_work translate_of translate_work stepped_now translate_in access_work located_now located_of read_of after_access at_of
+    at_work with_par sys_of sys_work zero_of zero_work write_of ram_after_write store_end store_ram_end verdict_of store_ram stored tlbi_core
+    invalidated_of after_register_write applied_of with_regs refit_of retagged_of reshaped_of set_level set_mark same_shape asid_of asid_base
+    fresh_core zeros reg_of fresh_control fresh_sys banked_at register_at control_with sys_with write_reg missed_of named decode_of scope_of what_of
+    tlbi_of flush_of invalidate_of get_of put_of miss_in needs_walk walked_in judged walk_of table_walk walk_range walk_from fresh_reads fetches_of
+    fetches_range fetches_from lookup_next level_next leaf_result leaf_translation leaf_permissions table_next descaddr range_of params_of pa_size
+    untagged word_at little_endian bytes_of place_of blanks no_hints no_tallies
+worked-reads = refl

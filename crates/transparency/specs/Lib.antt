@@ -24,5 +24,6 @@ pub mod PremiseRows
 pub mod ModelCalls
 pub mod Counted
 pub mod LevelCounts
+pub mod Reads
 -- The bytes.
 pub mod Bytes

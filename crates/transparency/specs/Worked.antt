@@ -1,6 +1,6 @@
 -- A worked list of calls, by computation on the core itself: the premise of faithfulness holds where the cache answers, and
 -- fails where a table was changed without a TLBI.
-use Rattle.std.specs.Prelude.{◌≡◌, true, List, [], ◌∷◌, ◌++◌, ℕ, Some, Ok}
+use Rattle.std.specs.Prelude.{◌≡◌, true, false, List, [], ◌∷◌, ◌++◌, ℕ, Some, Ok}
 use Rattle.word.specs.Ram.{bytes_of}
 use Rattle.tlb.specs.Asks.{translates}
 use Rattle.tlb.specs.Translate.{hint_in}
@@ -8,8 +8,9 @@ use Rattle.tlb.specs.declared.access.Kind.TheVariants.{Read}
 use Rattle.cpu.specs.Bare.{bare_of, fresh_bare}
 use Rattle.cpu.specs.Core.{fresh_core}
 use Rattle.cpu.specs.Step.{step_of}
+use Rattle.cpu.specs.declared.Core.{Core}
 use Rattle.cpu.specs.declared.call.Call.{Call}
-use Rattle.cpu.specs.declared.call.Call.TheVariants.{Translate, FetchPa, Register, Level, Mark, General, System}
+use Rattle.cpu.specs.declared.call.Call.TheVariants.{Translate, FetchPa, Load, Register, Level, Mark, General, System}
 use Rattle.cpu.specs.declared.call.Reply.TheVariants.{Value}
 use Rattle.history.specs.World.{uncached}
 use Rattle.history.specs.Calls.{Lent}
@@ -20,6 +21,7 @@ use Rattle.transparency.specs.Machine.{machine}
 use Rattle.transparency.specs.Beside.{core_after, bare_after}
 use Rattle.transparency.specs.Faithful.{fed_by}
 use Rattle.transparency.specs.Direct.{SettledAt}
+use Rattle.transparency.specs.Reads.{reads_on}
 use Rattle.transparency.specs.Steps.{Step, core_run, bare_run}
 use Rattle.transparency.specs.Claim as Claim
 use Rattle.transparency.specs.Claim.{SettledFor, answers_of}
@@ -115,3 +117,30 @@ counted_by_level =
     (core_after counted).tlb.levels
     ≡ record { hits = 1; walks = 0 } ∷ record { hits = 2; walks = 1 } ∷ record { hits = 0; walks = 0 }
     ∷ record { hits = 0; walks = 0 } ∷ []
+
+-- WHAT EACH CALL READS, with one word of RAM at 0x1000: a table that holds itself at levels 0 to 2, and a page of EL1's at level 3. EL1's first
+-- read walks by four descriptors; the next goes by its hint, and one under the mark, which EL1 is refused as EL0, by the entry. A load over two
+-- pages walks for the second, whose last descriptor lies outside RAM. AT walks afresh; after a TLBI so does the read, and after another a zeroing's
+-- first store, whose second one goes by the hint and ends outside RAM.
+abbrev pub own_table : Ram
+own_table = record { base = 0x1000; bytes = bytes_of 8 0x1403 }
+
+abbrev pub low : Call
+low = Translate Read 0x234
+
+abbrev pub system : ℕ → ℕ → ℕ → ℕ → Call
+system op1 crn crm op2 = System (record { op1 = op1; crn = crn; crm = crm; op2 = op2; rt = 31 })
+
+abbrev pub reading : List Call
+reading =
+    Register 0xC102 0x80000010 ∷ Register 0xC100 0x1000 ∷ Register 0xC080 1 ∷ Level 1 ∷ low ∷ low ∷ Mark true ∷ low ∷ Mark false
+    ∷ Load 0xFFC 8 ∷ system 0 7 8 0 ∷ system 0 8 7 0 ∷ low ∷ system 0 8 7 0 ∷ system 3 7 4 1 ∷ []
+
+abbrev pub reads_run : Core → List Call → List ℕ
+reads_run c [] = []
+reads_run c (x ∷ l) = reads_on c own_table x ∷ reads_run (step_of c own_table.base own_table.bytes x).core l
+
+abbrev pub worked_reads : Type 0
+worked_reads =
+    reads_run fresh_core reading
+    ≡ 0 ∷ 0 ∷ 0 ∷ 0 ∷ 4 ∷ 0 ∷ 0 ∷ 0 ∷ 0 ∷ 4 ∷ 4 ∷ 0 ∷ 4 ∷ 0 ∷ 4 ∷ []

@@ -21,7 +21,7 @@ ghost use Rattle.transparency.specs.Census.{census_faults, rights_allow, flat_al
 ghost use Rattle.transparency.specs.Judged.{every_call_judged, every_row};
 ghost use Rattle.transparency.specs.Faults.{every_replied_fault};
 ghost use Rattle.transparency.specs.Worked.{tidied_settled, by_cache, start_stale, start_unsettled, counted_by_level};
-ghost use Rattle.transparency.specs.Worked.{claim_met, claim_unmet};
+ghost use Rattle.transparency.specs.Worked.{claim_met, claim_unmet, worked_reads};
 ghost use Rattle.transparency.specs.PremiseRows.{all_rows, page_rows, bit_rows, asid_rows, write_rows, equal_rows};
 ghost use Rattle.transparency.specs.ModelCalls.{every_core_well, every_list_modelled, every_call_modelled};
 ghost use Rattle.transparency.specs.Counted.{EveryTlbi, EveryWrite};
@@ -32,6 +32,7 @@ ghost use Rattle.transparency.specs.Counted.{write_modelled, write_quiet, write_
 ghost use Rattle.transparency.specs.LevelCounts.{level_hits, level_walks, sums_list, call_level, others_stay};
 ghost use Rattle.transparency.specs.LevelCounts.{own_hits, own_walks, sums_call, quiet_stays, refused_stays};
 ghost use Rattle.transparency.specs.LevelCounts.{fetch_mark_free};
+ghost use Rattle.transparency.specs.Reads.{call_reads, each_reads, at_reads, refused_reads, quiet_reads};
 ghost use Rattle.transparency.specs.Bytes.{flat_after, load_byte_after, store_byte_after, store_others_after};
 ghost use Rattle.transparency.specs.Bytes.{flat_load_after, flat_store_after, flat_others_after, zva_after};
 
@@ -61,8 +62,9 @@ pub fn every_translation()
 {}
 
 /// Where all pages that a call translates are settled, its reply and RAM after it are those of the core without a
-/// cache; where no table is changed without its TLBI, no reply of a whole list shows the cache. Rules out an answer
-/// that is right inside and replied, or stored, wrong.
+/// cache; where no table is changed without its TLBI, no reply of a whole list shows the cache. How many descriptors
+/// were read is no part of a reply: the core without a cache walks each time, so it reads more (`every_read`). Rules
+/// out an answer that is right inside and replied, or stored, wrong.
 pub fn every_reply()
     ensures by_answers { RepliesByAnswers real machine replies }
     ensures same { SameReplies real machine replies fresh_core }
@@ -165,7 +167,7 @@ pub fn every_fault()
 /// A worked list: with a TLBI of another page of the same block the page is settled and a hint answers, rightly;
 /// without it the core answers by the old table, and the page is not settled. Rules out a premise that nothing meets,
 /// or that all meet; the same of the claim's own premise. And the counters by level after another list, under the mark
-/// and at two levels.
+/// and at two levels, and the descriptors that each call of a third one reads.
 pub fn worked_list()
     ensures settled { tidied_settled }
     ensures by_cache { by_cache }
@@ -174,6 +176,7 @@ pub fn worked_list()
     ensures met { claim_met }
     ensures unmet { claim_unmet }
     ensures by_level { counted_by_level }
+    ensures reads { worked_reads }
 {}
 
 /// Which TLBI and which register write covers which earlier walk, in numbers: all walks; those of a page, and with a
@@ -250,6 +253,20 @@ pub fn counter_moves()
     ensures sums { EveryCall sums_call }
     ensures quiet { quiet_stays }
     ensures mark { fetch_mark_free }
+{}
+
+/// After every list, the descriptors that a call reads are those of its translations: where the plain model walks, as
+/// many as the walk fetches on the registers and RAM at its step, whether it faults or not; where a hint, a line or the
+/// address alone answers, none. AT reads what its own walk does, whatever the cache holds; a refused call, and any
+/// other that translates nothing, none. Rules out a core that walks each time and reports none, one that reports what
+/// it did not read, as an entry's old walk, one that leaves out the second page or a later store of a zeroing, and an
+/// AT that reads less where the cache could answer.
+pub fn every_read()
+    ensures call { EveryCall call_reads }
+    ensures each { each_reads }
+    ensures at { at_reads }
+    ensures refused { refused_reads }
+    ensures quiet { quiet_reads }
 {}
 
 /// Byte i of a load or a store, split or not, lies at the translation of its own address, no other byte changes, and a

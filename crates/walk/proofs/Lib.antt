@@ -7,6 +7,7 @@ pub mod FreshLaws
 pub mod FlatLaws
 pub mod PageLaws
 pub mod Order
+pub mod Counts
 pub mod Numbers
 pub mod InRange
 pub mod Permissions

@@ -235,6 +235,18 @@ pub begins-standing : (s : Bank) (r : Regime) (va : ℕ) (g : Range) (p : Params
 begins-standing s r va g p x w eg ep ex n = standing s r va (λ _. None) g p x eg ep ex w n
 
 pub ruleset walk_steps = (
-      begins-standing, walk_begun, walk_refused, falls, stands, goes_on, leaf-right, fault-right, reads_begun, reads_refused, reads-on, leaf-read,
-      fault-read, few-fetches,
-    )
+  begins-standing,
+  walk_begun,
+  walk_refused,
+  falls,
+  stands,
+  goes_on,
+  leaf-right,
+  fault-right,
+  reads_begun,
+  reads_refused,
+  reads-on,
+  leaf-read,
+  fault-read,
+  few-fetches,
+)

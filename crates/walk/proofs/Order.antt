@@ -121,9 +121,9 @@ module _ (p : Params) (va : ℕ) (l : Lookup) (desc : ℕ) where
   used-leaf a b f = rw (leaf-allowed a, b, f)
 
 -- what holds of every table reached
-record Stage (s : Bank) (r : Regime) (va : ℕ) (memory : ℕ → Option ℕ) (l : Lookup) : Type 0 where
-  level : l.level ≤ 3
-  walk : table_walk s r va memory ≡ walk_from (4 - l.level) memory (params_at s r va) va l
+pub record Stage (s : Bank) (r : Regime) (va : ℕ) (memory : ℕ → Option ℕ) (l : Lookup) : Type 0 where
+  pub level : l.level ≤ 3
+  pub walk : table_walk s r va memory ≡ walk_from (4 - l.level) memory (params_at s r va) va l
 
 module _ (s : Bank) (r : Regime) (va : ℕ) (memory : ℕ → Option ℕ) where
   -- Walk entry, out of range: 0x04, and nothing is fetched
@@ -148,7 +148,7 @@ module _ (s : Bank) (r : Regime) (va : ℕ) (memory : ℕ → Option ℕ) where
   unfolding table_walk walk_range
   first-stage e d b = record { level = start-level (range_of s r va); walk = rw (e, b, d) }
 
-  one_down : (l k : Lookup) → l.level ≤ 3 → lookup_next memory (params_at s r va) va l ≡ deeper k
+  pub one_down : (l k : Lookup) → l.level ≤ 3 → lookup_next memory (params_at s r va) va l ≡ deeper k
       → (k.level ≡ l.level + 1) × (k.level ≤ 3)
   unfolding params_of
   one_down l k h e = next_level (params_at s r va) (pa-size-low _) (pa-size-high _) va memory l k h e
@@ -160,7 +160,7 @@ module _ (s : Bank) (r : Regime) (va : ℕ) (memory : ℕ → Option ℕ) where
       let n : 4 - l.level ≡ suc (4 - k.level) = omega arith in
       record { level = d.1; walk = rw (n, walk_from, e) at st.walk }
 
-  stage : {l : Lookup} → Reached s r va memory l → Stage s r va memory l
+  pub stage : {l : Lookup} → Reached s r va memory l → Stage s r va memory l
   stage (entry e d b) = first-stage e d b
   stage (onward {l} {k} h e) = next-stage l k (stage h) e
 

@@ -1,10 +1,11 @@
 -- The worked cases of docs/SCOPE.md that are translations with an empty cache, and the untagging: rows 1 to 9 and 12, as one computed statement.
-use Rattle.std.specs.Prelude.{if◌then◌else◌, ◌≡◌, Bool, true, false, [], ◌∷◌, ℕ, ◌+◌, ◌%◌, ◌^◌, Ok, Err}
+use Rattle.std.specs.Prelude.{if◌then◌else◌, ◌≡◌, Bool, true, false, [], ◌∷◌, length, ℕ, ◌+◌, ◌%◌, ◌^◌, Ok, Err}
 use Rattle.word.specs.Bits.{bit_on, align_down}
 use Rattle.word.specs.Ram.{word_at, bytes_of}
 use Rattle.walk.specs.Tag.{untagged}
 use Rattle.walk.specs.Permission.{Access, reading, fetching, kind_bit, first_bit}
 use Rattle.walk.specs.Walk.{walk_of}
+use Rattle.walk.specs.Fetches.{fetches_of}
 use Rattle.sysreg.specs.declared.regs.Regime.TheVariants.{El1}
 use Rattle.walk.specs.declared.regime.Bank.{Bank}
 use Rattle.walk.specs.Answers.{Walked}
@@ -62,3 +63,21 @@ WorkedTranslations =
     ∷ address 0xBFFFFFFF
     ∷ address 0xFFFFFFFFFFFFF000
     ∷ [])
+
+-- how many descriptors each of these walks reads: one, but none where the range or the base is refused
+unfoldable pub descriptors : ℕ → ℕ → ℕ → ℕ → ℕ
+unfolding registers
+descriptors ttbr0 at word va = length (fetches_of (registers ttbr0) El1 (untagged 25 El1 va) (word_at at (bytes_of 8 word) 8))
+
+abbrev pub WorkedReads : Type 0
+WorkedReads =
+    (descriptors 0x1000 0x1008 0x80000401 0x40001234
+    ∷ descriptors 0x1000 0x1008 0x80000001 0x40001234
+    ∷ descriptors 0x1000 0x1008 0 0x40001234
+    ∷ descriptors 0x1000 0x1008 0x100000001 0x40001234
+    ∷ descriptors 0x1000 0x1008 0x80000401 0x8000000000
+    ∷ descriptors 0x100000000 0x1008 0x80000401 0x40001234
+    ∷ descriptors 0x1000 0x1010 0x80000401 0x40001234
+    ∷ descriptors 0x1000 0x1FF8 0x80000401 0x7FFFFFFFFF
+    ∷ [])
+    ≡ (1 ∷ 1 ∷ 1 ∷ 1 ∷ 0 ∷ 0 ∷ 1 ∷ 1 ∷ [])

@@ -17,6 +17,7 @@ pub mod WalkBounds
 pub mod Fetches
 pub mod PageLaws
 pub mod Order
+pub mod Counts
 -- How the code keeps the walk's variables.
 pub mod State
 pub mod Visits

@@ -21,13 +21,7 @@ impl Bank {
     /// its walk read.
     #[inline(always)]
     #[tactic(auto, unfolding(crate::specs::Fresh::fresh_of, crate::specs::Fetches::fresh_reads))]
-    pub fn fresh_with_reads(
-        self,
-        regime: Regime,
-        va: u64,
-        base: u64,
-        ram: &[u8],
-    ) -> (Fresh, u8)
+    pub fn fresh_with_reads(self, regime: Regime, va: u64, base: u64, ram: &[u8]) -> (Fresh, u8)
         ensures fresh { result.0 ≡ fresh_of self regime va (word_at base ram.now 8) }
         ensures reads { result.1 ≡ fresh_reads self regime va (word_at base ram.now 8) }
     {

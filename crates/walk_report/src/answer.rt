@@ -8,6 +8,7 @@ use sysreg::regs::Regime;
 use tlb::access::Kind;
 use tlb::count::Tally;
 use tlb::entry::Entry;
+use tlb::work::Work;
 use walk::level::Walked;
 
 /// What an access is told.
@@ -92,8 +93,15 @@ impl Told {
     }
 
     /// The core's own answer to the translation.
-    pub fn of_core(core: &mut Core, base: u64, ram: &mut [u8], kind: Kind, va: u64) -> Self {
-        match core.step(base, ram, Call::Translate(kind, va)) {
+    pub fn of_core(
+        core: &mut Core,
+        base: u64,
+        ram: &mut [u8],
+        kind: Kind,
+        va: u64,
+        work: &mut Work,
+    ) -> Self {
+        match core.step(base, ram, Call::Translate(kind, va), work) {
             Reply::Value(pa) => Told::Address(pa),
             Reply::Fault { fault, .. } => Told::Fault(fault.fsc),
             Reply::Refused(check) => Told::Nothing(check),

@@ -9,6 +9,7 @@ use std::io::Write;
 use sysreg::regs::Regime;
 use tlb::access::Kind;
 use tlb::count::Tally;
+use tlb::work::Work;
 use tlb::{access, count};
 use walk::level::Leaf;
 
@@ -97,9 +98,11 @@ pub fn explain<W: Write>(
     if page != va {
         writeln!(out, "untagged   {page:016x}")?;
     }
+    let mut reads = 0;
     let now = if on {
         let steps = levels::walk(bank, regime, page, base, ram);
         write!(out, "{steps}")?;
+        reads = steps.reads;
         if let Ok(leaf) = &steps.answer {
             show_memory(out, core, regime, leaf)?;
         }
@@ -115,9 +118,12 @@ pub fn explain<W: Write>(
     };
     writeln!(out, "walk now   {now}")?;
     let before = counters(core);
-    let by_core = Told::of_core(core, base, ram, kind, va);
+    let mut work = Work::none();
+    let by_core = Told::of_core(core, base, ram, kind, va, &mut work);
     let source = Source::new(on, before, counters(core));
     writeln!(out, "the core   {by_core}, {source}")?;
     writeln!(out, "{}", verdict(now, by_core))?;
+    writeln!(out, "descriptors read: {reads}")?;
+    writeln!(out, "by the core: {}, {source}", work.reads)?;
     Ok(now == by_core || matches!(by_core, Told::Nothing(_)))
 }

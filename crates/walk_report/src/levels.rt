@@ -1,6 +1,7 @@
 // A walk that can be shown step by step: the tables that the walk reads, and its answer.
-ghost use Rattle.std.specs.Prelude.{◌≡◌};
+ghost use Rattle.std.specs.Prelude.{◌≡◌, length};
 ghost use Rattle.word.specs.Ram.{word_at};
+ghost use Rattle.walk.specs.Fetches.{fetches_of};
 ghost use Rattle.walk.specs.Walk.{walk_of};
 
 use crate::fields::{Rights, bit};
@@ -64,6 +65,8 @@ pub struct Steps<'a> {
     base: u64,
     ram: &'a [u8],
     pub answer: Walked,
+    /// how many descriptors the walk reads
+    pub reads: u8,
 }
 
 impl Steps<'_> {
@@ -159,15 +162,17 @@ impl fmt::Display for Steps<'_> {
 
 /// The walk of `va`, which is untagged, with its steps. It is the walk that translations make.
 pub fn walk<'a>(bank: Bank, regime: Regime, va: u64, base: u64, ram: &'a [u8]) -> Steps<'a>
-    ensures { result.answer ≡ walk_of bank regime va (word_at base ram.now 8) }
+    ensures answer { result.answer ≡ walk_of bank regime va (word_at base ram.now 8) }
+    ensures reads { result.reads ≡ length (fetches_of bank regime va (word_at base ram.now 8)) }
 {
-    let answer = bank.walk(regime, va, base, ram);
+    let walked = bank.walk(regime, va, base, ram);
     Steps {
         bank,
         regime,
         va,
         base,
         ram,
-        answer,
+        answer: walked.end,
+        reads: walked.reads,
     }
 }

@@ -1,4 +1,4 @@
-//! Two cores side by side, the Rust and another: answer, whole state and RAM after every operation. What leaves the
+//! Two cores side by side, the Rust and another: answer, descriptors read, whole state and RAM after every operation. What leaves the
 //! Rust's domain goes as [`domain`] has it.
 use crate::domain::{self, Judge};
 use crate::op::{Ans, Line, Op};
@@ -25,6 +25,7 @@ pub struct Difference {
 
 struct Side {
     answer: Option<Ans>,
+    reads: u64,
     state: State,
     ram: Ram,
 }
@@ -33,6 +34,7 @@ impl Side {
     fn take(core: &dyn Core, answer: Option<Ans>, ram: &Ram) -> Side {
         Side {
             answer,
+            reads: core.reads(),
             state: core.state(),
             ram: ram.clone(),
         }
@@ -40,7 +42,7 @@ impl Side {
 
     fn line(&self) -> String {
         let answer = self.answer.as_ref().map_or("-".into(), |a| a.to_string());
-        format!("{answer} | {}", self.state.line(self.ram.digest()))
+        format!("{answer} rd={:x} | {}", self.reads, self.state.line(self.ram.digest()))
     }
 
     fn full(&self) -> String {
@@ -90,7 +92,8 @@ pub fn compare(lines: &[Line], other: &mut dyn Core, mut watch: impl FnMut(Step)
         }
         // Where the Rust wrote nothing and the other could not have, RAM is as it was.
         let unwritten = other.seals() && !op.may_write_ram() && ram.writes == writes;
-        if x != y || !other.holds(&rust) || !unwritten && ram != other_ram {
+        let same = x == y && rust.reads() == other.reads();
+        if !same || !other.holds(&rust) || !unwritten && ram != other_ram {
             let (a, b) = (Side::take(&rust, x, &ram), Side::take(other, y, &other_ram));
             return Some(Difference {
                 at,

@@ -47,6 +47,9 @@ impl Event<'_> {
             names.extend(self.by_address(va, size));
         }
         names.extend(self.by_level());
+        if self.op.reports() {
+            names.push(("descriptors read".into(), self.after.reads().to_string()));
+        }
         names.extend(
             self.by_state()
                 .into_iter()

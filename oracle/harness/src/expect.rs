@@ -1,8 +1,8 @@
 //! Expectations in a trace: after `#=` on an operation's line stands its answer, then after `;` values of the state
-//! by the names of [`State::line`] and [`crate::state::REGS`], then after `--` the reason. Answer or values may be
+//! by the names of [`crate::State::line`] and [`crate::state::REGS`], `rd` the descriptors read, then after `--` the reason. Answer or values may be
 //! left out.
 use crate::op::{Ans, Line};
-use crate::{feed, Core, Ram, State};
+use crate::{feed, Core, Ram};
 
 #[derive(Default)]
 pub struct Outcome {
@@ -21,11 +21,11 @@ fn wanted(text: &str) -> Option<(&str, Vec<&str>)> {
     Some((answer.trim(), values.split_whitespace().collect()))
 }
 
-fn judge(text: &str, answer: Ans, state: &State) -> Vec<String> {
+fn judge(text: &str, answer: Ans, core: &dyn Core) -> Vec<String> {
     let Some((want, values)) = wanted(text) else {
         return Vec::new();
     };
-    let mut wrong = Vec::new();
+    let (mut wrong, state) = (Vec::new(), core.state());
     if want.is_empty() && values.is_empty() {
         wrong.push("an expectation of nothing".into());
     }
@@ -34,7 +34,11 @@ fn judge(text: &str, answer: Ans, state: &State) -> Vec<String> {
     }
     for pair in values {
         let (name, v) = pair.split_once('=').unwrap_or((pair, ""));
-        match state.value(name) {
+        let is = match name {
+            "rd" => Some(format!("{:x}", core.reads())),
+            _ => state.value(name),
+        };
+        match is {
             Some(is) if is == v => {}
             Some(is) => wrong.push(format!("{name} is {is}, not {v}")),
             None => wrong.push(format!("no value is named {name}")),
@@ -61,7 +65,7 @@ pub fn hold(text: &str, core: &mut dyn Core) -> Result<Outcome, String> {
         match answer {
             Some(a) => outcome
                 .wrong
-                .extend(judge(l, a, &core.state()).into_iter().map(at)),
+                .extend(judge(l, a, core).into_iter().map(at)),
             None if expects => outcome
                 .wrong
                 .push(at("no operation to expect something of".into())),

@@ -3,7 +3,8 @@
 //! of that page that the core really made, that no later invalidation covers, and that is global or of the ASID in
 //! force now, differs from the walk now, the two answers are equal. (The scope lets every walk the page would have
 //! had excuse a difference, so it asks less.) A census is a step that does nothing, and its counts are those of the
-//! core without a cache. After each step [`invariant`] is checked too.
+//! core without a cache. A translation that walks reads the descriptors of the walk now, any other none; an operation reads
+//! what its translations do, and AT what a walk does, whatever the cache holds. After each step [`invariant`] is checked too.
 mod invariant;
 mod past;
 
@@ -33,6 +34,8 @@ struct Trial<'a> {
     past: Past,
     /// The line that is carried out.
     line: usize,
+    /// The descriptors that its translations read.
+    reads: u64,
     seen: &'a mut Seen,
 }
 
@@ -87,14 +90,23 @@ impl Trial<'_> {
         let regime = r.regime();
         self.seen.translations += 1;
         let apart = || format!("kind {kind} {va:x} gives {got:x?}, without a cache {want:x?}");
+        let read = core.reads();
+        self.reads += read;
+        let told = |due: u64| match read {
+            n if n == due => Ok(()),
+            n => Err(format!("kind {kind} {va:x} reads {n} descriptors, not {due}")),
+        };
         if !r.on(regime) {
             self.seen.flat += 1;
+            told(0)?;
             return if got == want { Ok(got) } else { Err(apart()) };
         }
         let page = r.untag(regime, va) >> 12;
-        let now = r.walk(ram, regime, page << 12 | va & 0xFFF);
+        let mut fetched = 0;
+        let now = r.walk_counting(ram, regime, page << 12 | va & 0xFFF, &mut fetched);
         let excused = self.past.excuses(regime, page, r.asid(), &now);
         let walked = core.state().walks() != walks;
+        told(if walked { fetched } else { 0 })?;
         let count = if walked {
             &mut self.seen.walked
         } else {
@@ -204,7 +216,21 @@ impl Trial<'_> {
         Ok(())
     }
 
+    /// What the operation read is what its translations did; of AT what the core without a cache did.
+    fn reads_in_all(&self, line: &Line, core: &dyn Core) -> Result<(), String> {
+        let due = match line {
+            Line::Op(Op::Sys(_, 7, 8, ..)) => self.bare.reads(),
+            Line::Op(_) => self.reads,
+            _ => return Ok(()),
+        };
+        match core.reads() {
+            n if n == due => Ok(()),
+            n => Err(format!("reads {n} descriptors, not {due}")),
+        }
+    }
+
     fn step(&mut self, line: &Line, core: &mut dyn Core, ram: &mut Ram) -> Result<(), String> {
+        self.reads = 0;
         if *line == Line::Fresh {
             self.past.clear();
         }
@@ -217,6 +243,7 @@ impl Trial<'_> {
             }
         }
         self.feed(line, core, ram)?;
+        self.reads_in_all(line, core)?;
         let state = core.state();
         if state.regs != self.bare.state().regs {
             return Err("the registers are not those of the core without a cache".into());
@@ -234,6 +261,7 @@ pub fn hold(lines: &[Line], core: &mut dyn Core, seen: &mut Seen) -> Result<(), 
         bare: DocCore::new(),
         past: Past::default(),
         line: 0,
+        reads: 0,
         seen,
     };
     for (i, line) in lines.iter().enumerate() {

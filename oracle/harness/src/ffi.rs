@@ -75,6 +75,8 @@
 //! numbers the registers SCTLR 0, TCR, TTBR0, TTBR1, MAIR, VBAR, ELR, SPSR, ESR, FAR, SCR, HCR, VPIDR, VMPIDR 13.
 //! `l-syn` without a FAR gives a value, the ESR.
 //!
+//! `a72_step` writes a fifth word after these: the descriptors that the operation read, 0 where the code is 5, 6 or 7.
+//!
 //! # A state
 //!
 //! [`crate::place`] has its words, and `include/a72.h` the slots, tags and keys of entries and hints. Words 70 and 71 hold
@@ -134,24 +136,25 @@ pub fn saved(core: &Held) -> Words {
     words
 }
 
-/// One operation of the list on a core.
-type Step = fn(&mut Held, &Op, &mut Ram) -> Ans;
+/// One operation of the list on a core: its answer, and the descriptors that it read.
+type Step = fn(&mut Held, &Op, &mut Ram) -> (Ans, u64);
 /// A poke by the library's own setter, where it has one.
 type Set = fn(&mut Held, &Op) -> bool;
 
 /// By `a72_step`.
-fn step(core: &mut Held, op: &Op, ram: &mut Ram) -> Ans {
+fn step(core: &mut Held, op: &Op, ram: &mut Ram) -> (Ans, u64) {
     let (at, len) = (ram.bytes.lent(op.may_write_ram()), ram.bytes.len());
-    let (line, mut ans) = (encode(&Line::Op(*op)), [UNWRITTEN; 4]);
+    let (line, mut words) = (encode(&Line::Op(*op)), [UNWRITTEN; 5]);
     // Sound: each pointer is that of an array or a vector, with its own length, and no two overlap.
-    let code = unsafe { a72_step(&line, core.handle(), ram.base, at, len, &mut ans) };
+    let code = unsafe { a72_step(&line, core.handle(), ram.base, at, len, &mut words) };
+    let [ans @ .., reads] = words;
     let said = match code {
         number::DONE => decode_answer(&ans),
         _ => Ans::Panic,
     };
     match *op {
-        Op::Census(first, pages) => counted(said, census(core, first, pages, ram)),
-        _ => said,
+        Op::Census(first, pages) => (counted(said, census(core, first, pages, ram)), reads),
+        _ => (said, reads),
     }
 }
 
@@ -189,6 +192,8 @@ pub struct CCore {
     core: Held,
     /// The level that was put, where it is above 255.
     level: Option<u64>,
+    /// The descriptors that the last operation read.
+    reads: u64,
     step: Step,
     set: Set,
 }
@@ -199,6 +204,7 @@ impl CCore {
         CCore {
             core: Held::new(),
             level: None,
+            reads: 0,
             step,
             set: |_, _| false,
         }
@@ -241,13 +247,13 @@ impl CCore {
     }
 
     /// An operation that moves no word of the state, dead records included.
-    fn inspect(&mut self, op: &Op, ram: &mut Ram) -> Ans {
+    fn inspect(&mut self, op: &Op, ram: &mut Ram) -> (Ans, u64) {
         let before = self.words();
-        let answer = (self.step)(&mut self.core, op, ram);
+        let (answer, reads) = (self.step)(&mut self.core, op, ram);
         if self.words() == before {
-            answer
+            (answer, reads)
         } else {
-            Ans::Panic
+            (Ans::Panic, reads)
         }
     }
 }
@@ -261,7 +267,7 @@ impl Default for CCore {
 impl Core for CCore {
     fn reset(&mut self) {
         self.core = Held::new();
-        self.level = None;
+        (self.level, self.reads) = (None, 0);
     }
 
     fn has(&self, op: &Op) -> bool {
@@ -269,11 +275,17 @@ impl Core for CCore {
     }
 
     fn step(&mut self, op: &Op, ram: &mut Ram) -> Ans {
-        match op {
+        let (answer, reads) = match op {
             Op::Census(..) => self.inspect(op, ram),
-            _ if op.is_poke() => self.poke(op),
+            _ if op.is_poke() => (self.poke(op), 0),
             _ => (self.step)(&mut self.core, op, ram),
-        }
+        };
+        self.reads = reads;
+        answer
+    }
+
+    fn reads(&self) -> u64 {
+        self.reads
     }
 
     fn state(&self) -> State {
@@ -358,13 +370,13 @@ mod tests {
             &[12, 5, 0, 1, 0x100],
             &[12, 6, 0, 0x100],
         ] {
-            let (mut op, mut ans) = ([0; 8], [UNWRITTEN; 4]);
+            let (mut op, mut ans) = ([0; 8], [UNWRITTEN; 5]);
             op[..words.len()].copy_from_slice(words);
             let mut ram = [UNWRITTEN as u8; 8];
             // Sound: each pointer is that of a core or an array, with its own length, and no two overlap.
             let code = unsafe { a72_step(&op, core.handle(), 0, ram.as_mut_ptr(), 8, &mut ans) };
             assert_eq!(code, number::NAMES_NOTHING, "{words:?}");
-            assert!(ans == [UNWRITTEN; 4] && saved(&core) == before && ram == [UNWRITTEN as u8; 8]);
+            assert!(ans == [UNWRITTEN; 5] && saved(&core) == before && ram == [UNWRITTEN as u8; 8]);
         }
     }
 }

@@ -245,8 +245,11 @@ impl<'a> Grid<'a> {
         let mut other_ram = ram.clone();
         let (x, _) = domain::feed(&Line::Op(*op), &mut self.rust, ram);
         let (x, y) = (x.expect("an operation's answer"), self.other.step(op, &mut other_ram));
-        if x != y || (self.ask == Ask::List && !self.other.holds(&self.rust)) || *ram != other_ram {
-            return Err(format!("{op}: rust {x}, other {y}"));
+        let reads = [self.rust.reads(), self.other.reads()];
+        let moved = self.ask == Ask::List && !self.other.holds(&self.rust) || *ram != other_ram;
+        if x != y || reads[0] != reads[1] || moved {
+            let [a, b] = reads;
+            return Err(format!("{op}: rust {x} rd={a:x}, other {y} rd={b:x}"));
         }
         Ok(x)
     }

@@ -17,9 +17,10 @@ fn encoding(op: &Op) -> Option<u32> {
     }
 }
 
-/// Execute it on a copy; PC and X7 are put back.
+/// Execute it on a copy; PC and X7 are put back. The RAM that it leaves has read what pimu read of eight bytes.
 fn execute(core: &RustCore, ram: &Ram, op: &Op) -> Option<(Ans, State, Ram)> {
     let (mut c, mut m) = (core.clone(), ram.clone());
+    m.reads = 0;
     let (pc, x7) = (c.cpu.pc, c.cpu.x[7]);
     if let Op::Reg(_, v) = *op {
         c.cpu.x[7] = v;
@@ -84,6 +85,9 @@ pub fn compare(name: &str, lines: &[Line], seen: &mut Outcomes) {
         let mut differing = parts(&core.state(), &state);
         if window != ram {
             differing.push("RAM");
+        }
+        if window.reads != core.reads() {
+            differing.push("descriptors read");
         }
         let kind = if matches!(line, Line::Op(Op::Sys(..))) {
             "system operation"

@@ -55,6 +55,9 @@ pub trait Core {
     }
     /// Carry out one operation that the core has, on the RAM lent to it.
     fn step(&mut self, op: &Op, ram: &mut Ram) -> Ans;
+    /// How many descriptors the last operation read; 0 where it was refused, and of operations that report none. Of a
+    /// walk asked for as a leaf, that walk's.
+    fn reads(&self) -> u64;
     /// All that it holds.
     fn state(&self) -> State;
     /// Whether it is lent sealed bytes wherever it may not write them.

@@ -76,6 +76,11 @@ impl Op {
         )
     }
 
+    /// Whether the descriptors that it read stand beside its answer.
+    pub fn reports(&self) -> bool {
+        self.takes_ram() && !matches!(self, Op::Census(..))
+    }
+
     /// Whether it may write RAM.
     pub fn may_write_ram(&self) -> bool {
         matches!(self, Op::Store(..) | Op::Sys(3, 7, 4, 1, _))

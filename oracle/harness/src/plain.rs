@@ -16,6 +16,8 @@ pub struct PlainCore {
     core: Box<a72::Core>,
     /// The level that was put, where it is above 255.
     level: Option<u64>,
+    /// The descriptors that the last operation read.
+    reads: u64,
 }
 
 /// A translation's kind: 1 read, 2 write, 4 fetch.
@@ -143,6 +145,7 @@ impl Core for PlainCore {
     }
 
     fn step(&mut self, op: &Op, ram: &mut Ram) -> Ans {
+        self.reads = 0;
         if op.is_poke() {
             self.poke(op);
             return Ans::Ok;
@@ -151,7 +154,16 @@ impl Core for PlainCore {
         // Sound: the window's bytes, which `ram` lends. Where they are sealed nobody here writes them.
         let bytes = unsafe { std::slice::from_raw_parts_mut(at, len) };
         let mut window = a72::Ram::new(ram.base, bytes);
-        step(&mut self.core, op, &mut window).unwrap_or_else(|stop| stopped(op, stop))
+        let answer = step(&mut self.core, op, &mut window).unwrap_or_else(|stop| stopped(op, stop));
+        // A census takes the core to be looked at alone, and leaves the report of the operation before it.
+        if !matches!(op, Op::Census(..)) {
+            self.reads = self.core.report().reads;
+        }
+        answer
+    }
+
+    fn reads(&self) -> u64 {
+        self.reads
     }
 
     fn state(&self) -> State {

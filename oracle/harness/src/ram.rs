@@ -56,6 +56,8 @@ pub struct Ram {
     pub bytes: Bytes,
     /// How many writes were carried out.
     pub writes: u64,
+    /// How many reads of eight bytes pimu asked for.
+    pub reads: u64,
 }
 
 impl Default for Bytes {
@@ -66,7 +68,11 @@ impl Default for Bytes {
 
 impl Clone for Ram {
     fn clone(&self) -> Ram {
-        Ram::of(self.base, self.bytes.to_vec())
+        Ram {
+            writes: self.writes,
+            reads: self.reads,
+            ..Ram::of(self.base, self.bytes.to_vec())
+        }
     }
 }
 
@@ -82,6 +88,7 @@ impl Ram {
             base,
             bytes: Bytes::Plain(bytes),
             writes: 0,
+            reads: 0,
         }
     }
 
@@ -145,6 +152,7 @@ impl Ram {
 
 impl Memory for Ram {
     fn read(&mut self, addr: u64, size: u32) -> Result<u64, Abort> {
+        self.reads += u64::from(size == 8);
         self.get(addr, size).ok_or(Abort { addr, write: false })
     }
 

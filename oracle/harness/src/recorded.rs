@@ -13,20 +13,21 @@ use crate::compare::Step;
 use crate::coverage::Event;
 use crate::domain::{self, Judge};
 use crate::ffi::{encode, encode_answer};
-use crate::op::{Ans, Line};
+use crate::op::{Ans, Line, Op};
 use crate::rust::RustCore;
 use crate::state::PAR;
 use crate::tally::Tally;
 use crate::{Core, Ram, State};
 use std::collections::BTreeMap;
 
-/// The first word of a file: the bytes "A72REC02".
-pub const MAGIC: u64 = u64::from_le_bytes(*b"A72REC02");
+/// The first word of a file: the bytes "A72REC03".
+pub const MAGIC: u64 = u64::from_le_bytes(*b"A72REC03");
 
-/// The words of an operation's line: eight of the operation, four of the answer, the rest about the state after it.
-const LINE: usize = 38;
+/// The words of an operation's line: eight of the operation, four of the answer, the state after it, and last how many
+/// descriptors it read.
+const LINE: usize = 39;
 const AFTER: usize = LINE - 8;
-const STATE: usize = AFTER - 4;
+const STATE: usize = AFTER - 5;
 
 /// What recorded traces show.
 #[derive(Default)]
@@ -69,6 +70,15 @@ fn summary(s: &State, ram: u64) -> [u64; STATE] {
     ]
 }
 
+/// What a line has of the descriptors that this operation read; of a leaf's walk nothing.
+fn reads_of(op: &Op, core: &dyn Core) -> u64 {
+    if op.reports() {
+        core.reads()
+    } else {
+        0
+    }
+}
+
 struct Recorder<'a> {
     rust: RustCore,
     ram: Ram,
@@ -93,10 +103,11 @@ impl Recorder<'_> {
         self.outside += (judge != Judge::Rust) as u64;
         self.words.extend(encode_answer(&answer));
         self.words.extend(summary(&self.rust.state(), self.ram.digest()));
+        self.words.push(reads_of(op, &self.rust));
         self.show(op, &answer, &before, judge);
     }
 
-    fn show(&mut self, op: &crate::Op, answer: &Ans, before: &State, judge: Judge) {
+    fn show(&mut self, op: &Op, answer: &Ans, before: &State, judge: Judge) {
         let (rust, ram) = (&self.rust, &self.ram);
         self.shown.tally.note(&Step {
             op,

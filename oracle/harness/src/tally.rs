@@ -2,6 +2,7 @@
 use crate::compare::Step;
 use crate::domain::Judge;
 use crate::op::{Ans, Op};
+use crate::Core;
 use pimu::aarch64::access::cpu::unprivileged;
 use std::fmt::{self, Display, Formatter};
 
@@ -61,6 +62,8 @@ pub struct Tally {
     /// Operations that counted hits and those that counted walks, by level; last those at EL1 while unprivileged, which
     /// are in no other pair.
     by_level: [[u64; 2]; 5],
+    /// Operations that report how many descriptors they read, by that number; the last place has all larger ones.
+    by_reads: [u64; 10],
     pub operations: u64,
     /// Operations that the other core has not; they are in no other number.
     pub left_out: u64,
@@ -74,6 +77,7 @@ impl Default for Tally {
             by_order: vec![[0; CLASSES]; KINDS.len()],
             via: [0; 4],
             by_level: [[0; 2]; 5],
+            by_reads: [0; 10],
             operations: 0,
             left_out: 0,
         }
@@ -158,6 +162,9 @@ impl Tally {
             Judge::Crossing(_) => &mut self.by_order,
         };
         counts[kind(step.op)][class(step)] += 1;
+        if step.op.reports() {
+            self.by_reads[step.rust.reads().min(9) as usize] += 1;
+        }
         if step.judge != Judge::Rust {
             return;
         }
@@ -202,6 +209,7 @@ impl Tally {
         levels
             .zip(other.by_level.iter().flatten())
             .for_each(|(a, b)| *a += b);
+        self.by_reads.iter_mut().zip(other.by_reads).for_each(|(a, b)| *a += b);
         self.operations += other.operations;
         self.left_out += other.left_out;
     }
@@ -250,6 +258,13 @@ impl Tally {
 }
 
 impl Tally {
+    /// How many operations read how many descriptors.
+    pub fn reads(&self) -> String {
+        let seen = (0..).zip(self.by_reads).filter(|(_, n)| *n != 0);
+        let parts: Vec<String> = seen.map(|(reads, n)| format!("{reads}: {n}")).collect();
+        format!("operations by descriptors read {}", parts.join(", "))
+    }
+
     /// How many operations counted hits and walks at each level.
     pub fn levels(&self) -> String {
         let names = ["EL0", "EL1", "EL2", "EL3", "EL1 while unprivileged"];
@@ -271,6 +286,7 @@ impl Display for Tally {
         }
         writeln!(f, "{}", self.sources())?;
         writeln!(f, "{}", self.levels())?;
+        writeln!(f, "{}", self.reads())?;
         if self.left_out != 0 {
             writeln!(
                 f,

@@ -10,6 +10,8 @@ use crate::{Core, Ram, State};
 #[derive(Default)]
 pub struct WalkCore {
     model: DocCore,
+    /// The descriptors that the last operation read.
+    reads: u64,
 }
 
 /// A register by its name in [`REGS`].
@@ -19,7 +21,7 @@ fn reg(state: &State, name: &str) -> u64 {
 }
 
 impl WalkCore {
-    fn walk(&self, regime: u8, va: u64, ram: &Ram) -> Ans {
+    fn walk(&mut self, regime: u8, va: u64, ram: &Ram) -> Ans {
         let state = self.model.state();
         let own = |name: &str| reg(&state, &format!("{name}{regime}"));
         let bank = [
@@ -30,7 +32,7 @@ impl WalkCore {
             reg(&state, "SCR"),
             reg(&state, "HCR"),
         ];
-        let mut leaf = [0; 5];
+        let mut leaf = [0; 6];
         // Sound: each pointer and length are one array's or vector's own.
         let code = unsafe {
             a72_walk(
@@ -43,10 +45,11 @@ impl WalkCore {
                 ram.bytes.len(),
             )
         };
+        let [oa, desc, perms, level, global, reads] = leaf;
+        self.reads = reads;
         if code != DONE {
             return number::status(code).map_or(Ans::Panic, |s| Ans::Fault(va, s));
         }
-        let [oa, desc, perms, level, global] = leaf;
         Ans::Leaf(
             oa,
             perms as u8,
@@ -67,8 +70,16 @@ impl Core for WalkCore {
     fn step(&mut self, op: &Op, ram: &mut Ram) -> Ans {
         match *op {
             Op::LeafWalk(regime, va) => self.walk(regime, va, ram),
-            _ => self.model.step(op, ram),
+            _ => {
+                let answer = self.model.step(op, ram);
+                self.reads = self.model.reads();
+                answer
+            }
         }
+    }
+
+    fn reads(&self) -> u64 {
+        self.reads
     }
 
     fn state(&self) -> State {

@@ -77,13 +77,13 @@ fn expect() {
 fn replay() {
     let program = env!("CARGO_BIN_EXE_replay");
     let record = |words: &[u64]| -> Vec<u8> { words.iter().flat_map(|w| w.to_le_bytes()).collect() };
-    let magic = u64::from_le_bytes(*b"A72REC02");
-    let none = file("none.rec", &record(&[magic, 8, 0, 0, 0, 0, 38, 0]));
+    let magic = u64::from_le_bytes(*b"A72REC03");
+    let none = file("none.rec", &record(&[magic, 8, 0, 0, 0, 0, 39, 0]));
     tests_nothing(program, &[&none]);
     // A level is set, and no answer recorded: code 9 as a short line.
     let unjudged = file(
         "unjudged.rec",
-        &record(&[magic, 9, 1, 1, 0, 0, 38, 0, 9 + 128 | 1 << 16]),
+        &record(&[magic, 9, 1, 1, 0, 0, 39, 0, 9 + 128 | 1 << 16]),
     );
     tests_nothing(program, &[&unjudged]);
     [none, unjudged].map(|f| std::fs::remove_file(f).unwrap());

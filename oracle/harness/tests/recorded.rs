@@ -46,6 +46,7 @@ fn expectations_hold() {
     held("flat.trace", 67);
     held("crossing.trace", 78);
     held("levels.trace", 94);
+    held("reads.trace", 175);
 }
 
 #[test]

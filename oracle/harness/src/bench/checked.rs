@@ -1,13 +1,44 @@
-//! The Rust behind the library's own signatures: numbers in and out, lent words of RAM, and the checks 1 to
-//! 3 and 7 before pimu's function. So both sides do the same work.
+//! The Rust behind the library's own signatures: numbers in and out, lent words of RAM, the descriptors read, and the
+//! checks 1 to 3 and 7 before pimu's function. So both sides do the same work.
 use super::rust::Quick;
 use super::{repeat, summed, told, Work, DONE, STORED};
 use crate::census::{Counts, COUNTS};
+use crate::library::Answer;
 use crate::number::{FAULT, NAMES_NOTHING, UNDEFINED, UNIMPLEMENTED};
 use crate::{refusal, rust, Ram};
 use pimu::aarch64::access::{self, Halt};
-use pimu::aarch64::{Cpu, Exception};
+use pimu::aarch64::{Abort, Cpu, Exception, Memory};
 use std::hint::black_box;
+
+/// RAM that counts the reads of eight bytes.
+struct Counting<'a> {
+    ram: Quick<'a>,
+    reads: u64,
+}
+
+impl<'a> Counting<'a> {
+    #[inline(always)]
+    fn new(base: u64, bytes: &'a mut [u8]) -> Counting<'a> {
+        let ram = Quick { base, bytes };
+        Counting { ram, reads: 0 }
+    }
+}
+
+impl Memory for Counting<'_> {
+    #[inline(always)]
+    fn read(&mut self, addr: u64, size: u32) -> Result<u64, Abort> {
+        self.reads += u64::from(size == 8);
+        self.ram.read(addr, size)
+    }
+
+    #[inline(always)]
+    fn write(&mut self, addr: u64, size: u32, v: u64) -> Result<(), Abort> {
+        self.ram.write(addr, size, v)
+    }
+}
+
+/// An external abort's.
+const EXTERNAL: u64 = FAULT + 0x10;
 
 /// The number of the first of checks 1 and 2 that a call misses, or 0.
 #[inline(always)]
@@ -23,10 +54,10 @@ fn missed(c: &Cpu, base: u64, len: usize) -> u64 {
 
 /// The number of an abort, its address in `ans`.
 #[inline(always)]
-fn stopped(halt: Halt, ans: &mut u64) -> u64 {
+fn stopped(halt: Halt, ans: &mut Answer) -> u64 {
     match halt {
         Halt::Exception(Exception::DataAbort { addr, fsc, .. }) => {
-            *ans = addr;
+            ans.value = addr;
             FAULT + u64::from(fsc)
         }
         Halt::Exception(_) => UNDEFINED,
@@ -35,7 +66,7 @@ fn stopped(halt: Halt, ans: &mut u64) -> u64 {
 }
 
 #[inline(never)]
-fn translate(c: &mut Cpu, va: u64, kind: u64, ans: &mut u64, base: u64, ram: &mut [u8]) -> u64 {
+fn translate(c: &mut Cpu, va: u64, kind: u64, ans: &mut Answer, base: u64, ram: &mut [u8]) -> u64 {
     if !matches!(kind, 1 | 2 | 4) {
         return NAMES_NOTHING;
     }
@@ -43,17 +74,27 @@ fn translate(c: &mut Cpu, va: u64, kind: u64, ans: &mut u64, base: u64, ram: &mu
     if n != 0 {
         return n;
     }
-    match access::mmu::translate(c, &mut Quick { base, bytes: ram }, va, kind as u8) {
+    let m = &mut Counting::new(base, ram);
+    let n = match access::mmu::translate(c, m, va, kind as u8) {
         Ok(pa) => {
-            *ans = pa;
+            ans.value = pa;
             0
         }
         Err(status) => FAULT + u64::from(status),
-    }
+    };
+    ans.reads = m.reads;
+    n
+}
+
+/// The eight bytes of a load that was made at once and reached memory.
+#[inline(always)]
+fn own(c: &Cpu, n: u64, va: u64, size: u64) -> u64 {
+    let reached = size == 8 && matches!(n, 0 | EXTERNAL);
+    (reached && (va & 0xFFF <= 0xFF8 || !access::mmu::is_on(c, c.el.max(1) as u8))) as u64
 }
 
 #[inline(never)]
-fn load(c: &mut Cpu, va: u64, size: u64, ans: &mut u64, base: u64, ram: &mut [u8]) -> u64 {
+fn load(c: &mut Cpu, va: u64, size: u64, ans: &mut Answer, base: u64, ram: &mut [u8]) -> u64 {
     let n = missed(c, base, ram.len());
     if n != 0 {
         return n;
@@ -61,17 +102,20 @@ fn load(c: &mut Cpu, va: u64, size: u64, ans: &mut u64, base: u64, ram: &mut [u8
     if !matches!(size, 1 | 2 | 4 | 8) {
         return 3;
     }
-    match access::load(c, &mut Quick { base, bytes: ram }, va, size as u32) {
+    let m = &mut Counting::new(base, ram);
+    let n = match access::load(c, m, va, size as u32) {
         Ok(v) => {
-            *ans = v;
+            ans.value = v;
             0
         }
         Err(halt) => stopped(halt, ans),
-    }
+    };
+    ans.reads = m.reads - own(c, n, va, size);
+    n
 }
 
 #[inline(never)]
-fn store(c: &mut Cpu, va: u64, size: u64, v: u64, ans: &mut u64, base: u64, ram: &mut [u8]) -> u64 {
+fn store(c: &mut Cpu, va: u64, size: u64, v: u64, ans: &mut Answer, base: u64, ram: &mut [u8]) -> u64 {
     let n = missed(c, base, ram.len());
     if n != 0 {
         return n;
@@ -79,10 +123,13 @@ fn store(c: &mut Cpu, va: u64, size: u64, v: u64, ans: &mut u64, base: u64, ram:
     if !matches!(size, 1 | 2 | 4 | 8) {
         return 3;
     }
-    match access::store(c, &mut Quick { base, bytes: ram }, va, size as u32, v) {
+    let m = &mut Counting::new(base, ram);
+    let n = match access::store(c, m, va, size as u32, v) {
         Ok(()) => 0,
         Err(halt) => stopped(halt, ans),
-    }
+    };
+    ans.reads = m.reads;
+    n
 }
 
 #[inline(never)]
@@ -110,22 +157,22 @@ pub fn has(work: Work) -> bool {
 pub fn run(work: Work, args: [u64; 2], c: &mut Cpu, ram: &mut Ram, n: usize) -> u64 {
     let base = black_box(ram.base);
     let bytes = &mut ram.bytes[..];
-    let mut ans = 0;
+    let mut ans = Answer::default();
     let a = &mut ans;
     match black_box(work) {
         Work::Translate(kind) => {
             let kind = kind.into();
             repeat(n, args, |va| {
-                summed(translate(c, va, kind, a, base, bytes), *a, 0)
+                summed(translate(c, va, kind, a, base, bytes), a.value, 0)
             })
         }
         Work::Load(size) => repeat(n, args, |va| {
-            summed(load(c, va, size.into(), a, base, bytes), *a, *a)
+            summed(load(c, va, size.into(), a, base, bytes), a.value, a.value)
         }),
         Work::Store(size) => {
             let v = black_box(STORED);
             repeat(n, args, |va| {
-                summed(store(c, va, size.into(), v, a, base, bytes), DONE, *a)
+                summed(store(c, va, size.into(), v, a, base, bytes), DONE, a.value)
             })
         }
         Work::Census(pages) => {

@@ -3,12 +3,13 @@ use super::{fault, repeat, summed, told, Work, DONE, STORED};
 use crate::census::COUNTS;
 use crate::ffi::each::Lent;
 use crate::ffi::{count, Held};
+use crate::library::Answer;
 use crate::Ram;
 use std::hint::black_box;
 
 pub fn run(work: Work, args: [u64; 2], core: &mut Held, ram: &mut Ram, n: usize) -> u64 {
     let base = black_box(ram.base);
-    let mut ans = 0;
+    let mut ans = Answer::default();
     let a = &mut ans;
     if let Work::Census(pages) = work {
         let counts = &mut [0; COUNTS];
@@ -21,30 +22,30 @@ pub fn run(work: Work, args: [u64; 2], core: &mut Held, ram: &mut Ram, n: usize)
     match black_box(work) {
         Work::Translate(kind) => {
             let kind = kind.into();
-            repeat(n, args, |va| summed(lent.translate(va, kind, a), *a, 0))
+            repeat(n, args, |va| summed(lent.translate(va, kind, a), a.value, 0))
         }
         Work::DataPa => repeat(n, args, |va| match lent.data_pa(va, a) {
-            0 => *a,
+            0 => a.value,
             _ => fault(1, 0),
         }),
         Work::FetchPa => repeat(n, args, |va| match lent.fetch_pa(va, a) {
-            0 => *a,
+            0 => a.value,
             _ => fault(1, 0),
         }),
         Work::Load(size) => {
             let size = size.into();
-            repeat(n, args, |va| summed(lent.load(va, size, a), *a, *a))
+            repeat(n, args, |va| summed(lent.load(va, size, a), a.value, a.value))
         }
         Work::Store(size) => {
             let (size, v) = (size.into(), black_box(STORED));
-            repeat(n, args, |va| summed(lent.store(va, size, v, a), DONE, *a))
+            repeat(n, args, |va| summed(lent.store(va, size, v, a), DONE, a.value))
         }
-        Work::Fetch => repeat(n, args, |va| summed(lent.fetch(va, a), *a, 0)),
+        Work::Fetch => repeat(n, args, |va| summed(lent.fetch(va, a), a.value, 0)),
         Work::System(fields) => {
             let [op1, crn, crm, op2] = fields.map(u64::from);
             repeat(n, args, |rt| {
                 let n = lent.system([op1, crn, crm, op2, rt], a);
-                summed(n, DONE, *a)
+                summed(n, DONE, a.value)
             })
         }
         Work::Register(key) => {

@@ -2,13 +2,13 @@
 use harness::cli::{finish, Args, NOTHING};
 use harness::expect::hold;
 
-const USAGE: &str = "expect [--model | --c | --each] TRACE..
+const USAGE: &str = "expect [--model | --c | --each | --plain] TRACE..
   Runs each trace on the Rust, in its domain (--model: on the model; --c: on the core behind the C boundary; --each:
-  by its function for each operation) and holds each operation
+  by its function for each operation; --plain: on the core as plain Rust) and holds each operation
   to what stands after '#=' on its line. Status 1 where one is wrong, or there is none.";
 
 fn main() {
-    let args = Args::new(USAGE, &["--model", "--c", "--each"], &[]);
+    let args = Args::new(USAGE, &["--model", "--c", "--each", "--plain"], &[]);
     if args.words().is_empty() {
         args.fail("a trace is missing");
     }

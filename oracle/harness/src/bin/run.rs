@@ -4,7 +4,7 @@ use harness::{feed, Line, Ram};
 use std::io::Write;
 
 const USAGE: &str = "run TRACE [--full] [--right | --model | --c | --each]
-  A line for each operation: its line number, the operation, the answer, the state after it. --full: the whole state
+  A line for each operation: its line number, the operation, the answer, the descriptors that it read, the state after it. --full: the whole state
   too, and every count of a census that is not 0. On the Rust; --right: on the Rust in its domain and on what
   stands in its place outside it; --model: on the model; --c: on the core behind the C boundary (--each: by its function for each
   operation).";
@@ -40,7 +40,11 @@ fn main() -> std::io::Result<()> {
             continue;
         };
         let state = core.state();
-        writeln!(out, "{n} {line} => {answer} | {}", state.line(digest))?;
+        let reads = match line {
+            Line::Op(op) if op.reports() => format!(" rd={:x}", core.reads()),
+            _ => String::new(),
+        };
+        writeln!(out, "{n} {line} => {answer}{reads} | {}", state.line(digest))?;
         if args.flag("--full") {
             write!(out, "{}{}", answer.full(), state.full())?;
         }

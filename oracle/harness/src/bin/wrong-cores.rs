@@ -8,8 +8,8 @@ use harness::{feed, Ans, Core, Line, Ram, State};
 
 const USAGE: &str = "wrong-cores SEED N
   Runs each of the model's mistakes beside the Rust (outside the Rust's domain beside what stands in its place) on
-  strict traces from SEED on, for at most about N operations, and says after how many operations the state told them apart, and when the answers, counters, registers or RAM
-  alone did. Status 1 where one is not caught by the latter.";
+  strict traces from SEED on, for at most about N operations, and says after how many operations the state told them apart, and when the answers, descriptors read, counters,
+  registers or RAM alone did. Status 1 where one is not caught by the latter.";
 
 /// What the scope compares: no hints and no entries.
 fn shown(s: &State) -> impl PartialEq {
@@ -47,7 +47,8 @@ impl Pair {
     /// Whether the whole state differs, and whether something that the scope compares does.
     fn differs(&self, answers: [Option<Ans>; 2]) -> (bool, bool) {
         let (s, t) = (self.rust.state(), self.wrong.state());
-        let open = answers[0] != answers[1] || self.rams[0] != self.rams[1];
+        let reads = self.rust.reads() != self.wrong.reads();
+        let open = answers[0] != answers[1] || reads || self.rams[0] != self.rams[1];
         (open || s != t, open || shown(&s) != shown(&t))
     }
 }

@@ -1,7 +1,8 @@
 //! The library's function for each operation, with the feature `rattle`.
 //!
-//! Each gives one of the numbers in [`crate::number`]. `ans` takes the value, or the address of a data abort; where
-//! there is neither it stays as it was.
+//! Each gives one of the numbers in [`crate::number`]. An [`Answer`] takes the value, or the address of a data abort, and
+//! the descriptors read. Without a value or an address that word stays as it was, and of a call that is refused, undefined or
+//! unimplemented the whole answer.
 use super::{census, exception, Held, UNWRITTEN};
 use crate::library::*;
 use crate::number::{status, DONE, LAST_CHECK, UNDEFINED, UNIMPLEMENTED};
@@ -24,45 +25,45 @@ impl<'a> Lent<'a> {
     }
 
     #[inline(always)]
-    pub fn translate(&mut self, va: u64, kind: u64, ans: &mut u64) -> u64 {
+    pub fn translate(&mut self, va: u64, kind: u64, ans: &mut Answer) -> u64 {
         let ram = &*self.ram;
         unsafe { a72_translate(self.core, va, kind, ans, self.base, ram.as_ptr(), ram.len()) }
     }
 
     #[inline(always)]
-    pub fn data_pa(&mut self, va: u64, ans: &mut u64) -> u64 {
+    pub fn data_pa(&mut self, va: u64, ans: &mut Answer) -> u64 {
         let ram = &*self.ram;
         unsafe { a72_data_pa(self.core, va, ans, self.base, ram.as_ptr(), ram.len()) }
     }
 
     #[inline(always)]
-    pub fn fetch_pa(&mut self, va: u64, ans: &mut u64) -> u64 {
+    pub fn fetch_pa(&mut self, va: u64, ans: &mut Answer) -> u64 {
         let ram = &*self.ram;
         unsafe { a72_fetch_pa(self.core, va, ans, self.base, ram.as_ptr(), ram.len()) }
     }
 
     #[inline(always)]
-    pub fn load(&mut self, va: u64, size: u64, ans: &mut u64) -> u64 {
+    pub fn load(&mut self, va: u64, size: u64, ans: &mut Answer) -> u64 {
         let ram = &*self.ram;
         unsafe { a72_load(self.core, va, size, ans, self.base, ram.as_ptr(), ram.len()) }
     }
 
     #[inline(always)]
-    pub fn store(&mut self, va: u64, size: u64, value: u64, ans: &mut u64) -> u64 {
+    pub fn store(&mut self, va: u64, size: u64, value: u64, ans: &mut Answer) -> u64 {
         let ram = &mut *self.ram;
         let (at, len) = (ram.as_mut_ptr(), ram.len());
         unsafe { a72_store(self.core, va, size, value, ans, self.base, at, len) }
     }
 
     #[inline(always)]
-    pub fn fetch(&mut self, va: u64, ans: &mut u64) -> u64 {
+    pub fn fetch(&mut self, va: u64, ans: &mut Answer) -> u64 {
         let ram = &*self.ram;
         unsafe { a72_fetch(self.core, va, ans, self.base, ram.as_ptr(), ram.len()) }
     }
 
     /// `fields`: op1, CRn, CRm, op2, register.
     #[inline(always)]
-    pub fn system(&mut self, fields: [u64; 5], ans: &mut u64) -> u64 {
+    pub fn system(&mut self, fields: [u64; 5], ans: &mut Answer) -> u64 {
         let [op1, crn, crm, op2, rt] = fields;
         let ram = &mut *self.ram;
         let (at, len) = (ram.as_mut_ptr(), ram.len());
@@ -95,27 +96,34 @@ impl<'a> Lent<'a> {
     }
 }
 
-/// An answer without a value, which leaves `ans` as it was.
-fn done(n: u64, ans: u64) -> Ans {
+/// What no call has written anything of.
+const BLANK: Answer = Answer {
+    value: UNWRITTEN,
+    reads: UNWRITTEN,
+};
+
+/// Without a value.
+fn done(n: u64, ans: &Answer) -> Ans {
     match n {
-        DONE if ans == UNWRITTEN => Ans::Ok,
-        _ => other(n),
+        DONE if ans.value == UNWRITTEN => Ans::Ok,
+        _ => other(n, ans),
     }
 }
 
-fn value(n: u64, ans: u64, fault: impl Fn(u8) -> Ans) -> Ans {
+fn value(n: u64, ans: &Answer, fault: impl Fn(u8) -> Ans) -> Ans {
     match n {
-        DONE => Ans::Val(ans),
-        _ => status(n).map_or_else(|| other(n), fault),
+        DONE => Ans::Val(ans.value),
+        _ => status(n).map_or_else(|| other(n, ans), fault),
     }
 }
 
-fn write(n: u64, ans: u64) -> Ans {
-    status(n).map_or_else(|| done(n, ans), |s| Ans::Data(ans, true, s))
+fn write(n: u64, ans: &Answer) -> Ans {
+    status(n).map_or_else(|| done(n, ans), |s| Ans::Data(ans.value, true, s))
 }
 
-fn other(n: u64) -> Ans {
+fn other(n: u64, ans: &Answer) -> Ans {
     match n {
+        _ if (ans.value, ans.reads) != (UNWRITTEN, UNWRITTEN) => Ans::Panic,
         1..=LAST_CHECK => Ans::Number(n as u8),
         UNDEFINED => Ans::Undefined,
         UNIMPLEMENTED => Ans::Unimplemented,
@@ -124,27 +132,27 @@ fn other(n: u64) -> Ans {
 }
 
 /// One operation of the list, by its function.
-pub(super) fn step(core: &mut Held, op: &Op, ram: &mut Ram) -> Ans {
+pub(super) fn step(core: &mut Held, op: &Op, ram: &mut Ram) -> (Ans, u64) {
     use Op::*;
     if let Census(first, pages) = *op {
-        return census(core, first, pages, ram);
+        return (census(core, first, pages, ram), 0);
     }
     let (at, len) = (ram.bytes.lent(op.may_write_ram()), ram.bytes.len());
     // Sound: the window's bytes, which `ram` lends. Where they are sealed nobody here writes them.
     let mut lent = Lent::new(core, ram.base, unsafe { std::slice::from_raw_parts_mut(at, len) });
-    let quiet = |n| done(n, UNWRITTEN);
-    let mut ans = UNWRITTEN;
+    let quiet = |n| done(n, &BLANK);
+    let mut ans = BLANK;
     let a = &mut ans;
-    match *op {
-        Translate(k, va) => value(lent.translate(va, k.into(), a), *a, |s| Ans::Fault(va, s)),
-        DataPa(va) => value(lent.data_pa(va, a), *a, |_| Ans::None),
-        FetchPa(va) => value(lent.fetch_pa(va, a), *a, |_| Ans::None),
-        Load(va, size) => value(lent.load(va, size.into(), a), *a, |s| Ans::Data(*a, false, s)),
-        Store(va, size, v) => write(lent.store(va, size.into(), v, a), *a),
-        Fetch(va) => value(lent.fetch(va, a), *a, |s| Ans::Insn(va, s)),
+    let answer = match *op {
+        Translate(k, va) => value(lent.translate(va, k.into(), a), a, |s| Ans::Fault(va, s)),
+        DataPa(va) => value(lent.data_pa(va, a), a, |_| Ans::None),
+        FetchPa(va) => value(lent.fetch_pa(va, a), a, |_| Ans::None),
+        Load(va, size) => value(lent.load(va, size.into(), a), a, |s| Ans::Data(a.value, false, s)),
+        Store(va, size, v) => write(lent.store(va, size.into(), v, a), a),
+        Fetch(va) => value(lent.fetch(va, a), a, |s| Ans::Insn(va, s)),
         Sys(op1, crn, crm, op2, rt) => {
             let fields = [op1, crn, crm, op2, rt].map(u64::from);
-            write(lent.system(fields, a), *a)
+            write(lent.system(fields, a), a)
         }
         Reg(k, v) => quiet(lent.register(k.into(), v)),
         Level(l) => quiet(lent.level(l.into())),
@@ -152,7 +160,13 @@ pub(super) fn step(core: &mut Held, op: &Op, ram: &mut Ram) -> Ans {
         SetX(r, v) => quiet(lent.general(r.into(), v)),
         Abort(e) => quiet(lent.abort(&exception(&e))),
         _ => unreachable!("{op} is none of the list"),
-    }
+    };
+    let reads = match answer {
+        Ans::Number(_) | Ans::Undefined | Ans::Unimplemented => 0,
+        _ if op.reports() => ans.reads,
+        _ => 0,
+    };
+    (answer, reads)
 }
 
 /// A poke by the library's own setter; whether there is one for it.

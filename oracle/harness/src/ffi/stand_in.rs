@@ -57,7 +57,7 @@ pub unsafe fn a72_step(
     base: u64,
     ram: *mut u8,
     ram_bytes: usize,
-    ans: *mut [u64; 4],
+    ans: *mut [u64; 5],
 ) -> u64 {
     let state = words(core);
     let bytes = from_raw_parts_mut(ram, ram_bytes);
@@ -73,10 +73,11 @@ pub unsafe fn a72_step(
     }
     *state = *boxed(&core.state());
     // The counts of a census are the other function's.
-    *ans = encode_answer(match &answer {
+    let [code, a, b, c] = encode_answer(match &answer {
         Ans::Counts(_) => &Ans::Ok,
         other => other,
     });
+    *ans = [code, a, b, c, core.reads()];
     DONE
 }
 

@@ -133,6 +133,7 @@ impl DocCore {
                 if e.perms & need != 0 || !self.makes(Mistake::EntryFaultNotCounted) {
                     self.count_hit_of(kind, &e);
                 }
+                self.repeat_reads_of(&e);
                 e
             }
             None => {
@@ -155,7 +156,10 @@ impl DocCore {
     }
 
     fn walk_into_cache(&mut self, ram: &Ram, regime: u32, bare: u64, need: u8) -> Result<Entry, u8> {
-        let leaf = self.regs.walk(ram, regime, bare)?;
+        let mut reads = 0;
+        let walked = self.regs.walk_counting(ram, regime, bare, &mut reads);
+        self.reads += reads;
+        let leaf = walked?;
         let page = bare >> 12;
         let e = Entry {
             slot: (page % 1024) as u16,
@@ -168,7 +172,7 @@ impl DocCore {
         };
         if leaf.perms & need != 0 || !self.makes(Mistake::PermissionFaultNotCached) {
             self.entries.insert(e.slot, (self.generation, e));
-            self.walked_at.insert(e.slot, self.regs.level as usize);
+            self.walked.insert(e.slot, (self.regs.level as usize, reads));
         }
         Ok(e)
     }

@@ -31,8 +31,8 @@ impl DocCore {
 
     /// A hit of this entry.
     pub(super) fn count_hit_of(&mut self, kind: u8, e: &Entry) {
-        match self.walked_at.get(&e.slot) {
-            Some(level) if self.makes(Mistake::HitCountedAtWalk) => up(&mut self.levels[*level].hits),
+        match self.walked.get(&e.slot) {
+            Some((level, _)) if self.makes(Mistake::HitCountedAtWalk) => up(&mut self.levels[*level].hits),
             _ => self.count_hit(kind),
         }
     }
@@ -40,6 +40,14 @@ impl DocCore {
     pub(super) fn count_walk(&mut self, kind: u8) {
         let level = self.counted_at(kind);
         up(&mut self.levels[level].walks);
+    }
+
+    /// The mistake of reporting again what this entry's walk read.
+    pub(super) fn repeat_reads_of(&mut self, e: &Entry) {
+        match self.walked.get(&e.slot) {
+            Some((_, reads)) if self.makes(Mistake::ReadsEntryRepeats) => self.reads += reads,
+            _ => {}
+        }
     }
 
     /// The mistake of counting what is done here at the regime's level, which differs from the present one at EL0.

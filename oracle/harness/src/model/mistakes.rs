@@ -67,12 +67,18 @@ pub enum Mistake {
     CrossingFirstByteAlone,
     CrossingJudgesAll,
     CrossingStopsAtFirst,
+    ReadsFailedLeftOut,
+    ReadsRefusedOne,
+    ReadsFirstPageAlone,
+    ReadsLastStore,
+    ReadsAtNone,
+    ReadsEntryRepeats,
 }
 
 use Mistake::*;
 
 /// Each mistake with what it does, by number from 1.
-pub const MISTAKES: [(Mistake, &str); 65] = [
+pub const MISTAKES: [(Mistake, &str); 71] = [
     (FlagBeforeSize, "access flag judged before the output size"),
     (
         PageDropsOnePage,
@@ -185,5 +191,23 @@ pub const MISTAKES: [(Mistake, &str); 65] = [
     (
         CrossingStopsAtFirst,
         "second page not translated where a byte of the first is outside",
+    ),
+    (
+        ReadsFailedLeftOut,
+        "a descriptor outside RAM left out of those read",
+    ),
+    (
+        ReadsRefusedOne,
+        "a walk that range or base refuses reports a descriptor",
+    ),
+    (
+        ReadsFirstPageAlone,
+        "descriptors of the second page's walk not reported",
+    ),
+    (ReadsLastStore, "DC ZVA reports the descriptors of its last store"),
+    (ReadsAtNone, "AT reports no descriptors"),
+    (
+        ReadsEntryRepeats,
+        "an answer from an entry reports what its walk read",
     ),
 ];

@@ -34,7 +34,13 @@ impl DocCore {
                 };
                 let user = regime == 1 && matches!(op2, 2 | 3 | 6 | 7);
                 let va = self.regs.general(rt);
-                self.regs.par = self.regs.address_translation(ram, regime, user, op2 % 2 == 1, va);
+                let mut reads = 0;
+                self.regs.par = self
+                    .regs
+                    .address_translation(ram, regime, user, op2 % 2 == 1, va, &mut reads);
+                if !self.makes(Mistake::ReadsAtNone) {
+                    self.reads = reads;
+                }
                 Ans::Ok
             }
             _ => Ans::Unimplemented,
@@ -51,6 +57,9 @@ impl DocCore {
             Err(0)
         };
         for i in 0..8 {
+            if self.makes(Mistake::ReadsLastStore) {
+                self.reads = 0;
+            }
             let answer = match first {
                 Ok(pa) if i > 0 && ram.put(pa + 8 * i, 8, 0) => Ans::Ok,
                 _ => self.store_bytes(ram, base + 8 * i, 8, 0),
@@ -89,8 +98,17 @@ impl DocCore {
 }
 
 impl Regs {
-    /// What an AT writes into PAR. It walks afresh and touches neither cache nor counters.
-    fn address_translation(&self, ram: &Ram, regime: u32, user: bool, write: bool, va: u64) -> u64 {
+    /// What an AT writes into PAR. It walks afresh and touches neither cache nor counters; what it reads is added to
+    /// `reads`.
+    fn address_translation(
+        &self,
+        ram: &Ram,
+        regime: u32,
+        user: bool,
+        write: bool,
+        va: u64,
+        reads: &mut u64,
+    ) -> u64 {
         let page = |a: u64| bits(a, 47, 12) << 12;
         let fault = |s: u8| 0x801 + 2 * u64::from(s);
         let ns = bit(self.get(Bank::Scr, 3), 0) && regime != 3;
@@ -102,7 +120,7 @@ impl Regs {
             };
         }
         let need = needed(1 + write as u8, user);
-        match self.walk(ram, regime, self.untag(regime, va)) {
+        match self.walk_counting(ram, regime, self.untag(regime, va), reads) {
             Err(s) => fault(s),
             Ok(l) if l.perms & need == 0 => fault(0x0C + l.level),
             Ok(l) => {

@@ -151,9 +151,18 @@ impl Regs {
 
     /// `va` is untagged. The error is the status.
     pub fn walk(&self, ram: &Ram, regime: u32, va: u64) -> Result<Leaf, u8> {
+        self.walk_counting(ram, regime, va, &mut 0)
+    }
+
+    /// A walk; the descriptors that it reads are added to `reads`, one that lies outside RAM too.
+    pub fn walk_counting(&self, ram: &Ram, regime: u32, va: u64, reads: &mut u64) -> Result<Leaf, u8> {
         let s = self.shape(regime, va);
+        let mut refused = |status| {
+            *reads += self.makes(Mistake::ReadsRefusedOne) as u64;
+            Err(status)
+        };
         if !s.in_range(va) || s.closed {
-            return Err(0x04);
+            return refused(0x04);
         }
         // The first table resolves what the levels below leave over.
         let above = s.input - s.granule;
@@ -162,13 +171,15 @@ impl Regs {
         let bytes = 8u64 << width;
         let mut table = s.ttbr % (1 << 48) / bytes * bytes;
         if s.too_large(table) {
-            return Err(0x00);
+            return refused(0x00);
         }
         let mut limits = Limits::default();
         for level in 4 - levels..4 {
             let index = (va >> s.lsb(level)) % (1 << width);
             let n = level as u8;
-            let d = ram.get(table + 8 * index, 8).ok_or(0x14 + n)?;
+            let d = ram.get(table + 8 * index, 8);
+            *reads += (d.is_some() || !self.makes(Mistake::ReadsFailedLeftOut)) as u64;
+            let d = d.ok_or(0x14 + n)?;
             if !bit(d, 0) {
                 return Err(0x04 + n);
             }

@@ -1,8 +1,8 @@
 //! Hold a core to a recorded file.
 use super::short::{expand, Case};
-use super::{summary, AFTER, LINE, MAGIC};
+use super::{reads_of, summary, AFTER, LINE, MAGIC};
 use crate::ffi::{decode, encode_answer};
-use crate::op::Line;
+use crate::op::{Line, Op};
 use crate::{feed, Core, Ram};
 
 fn words(bytes: &[u8]) -> Result<Vec<u64>, String> {
@@ -81,7 +81,7 @@ impl Replay<'_> {
         self.answer = encode_answer(&answer);
         self.done.judged += want.is_some() as u64;
         match want {
-            Some(want) => self.judge(want).map_err(|e| format!("{op}: {e}")),
+            Some(want) => self.judge(&op, want).map_err(|e| format!("{op}: {e}")),
             None => Ok(()),
         }
     }
@@ -92,9 +92,9 @@ impl Replay<'_> {
         Some(*want)
     }
 
-    fn judge(&self, want: [u64; AFTER]) -> Result<(), String> {
+    fn judge(&self, op: &Op, want: [u64; AFTER]) -> Result<(), String> {
         let after = summary(&self.core.state(), self.ram.digest());
-        let is = [self.answer.as_slice(), &after].concat();
+        let is = [self.answer.as_slice(), &after, &[reads_of(op, &*self.core)]].concat();
         match (0..AFTER).find(|&i| is[i] != want[i]) {
             Some(i) => Err(format!("word {} is {:x}, not {:x}", 8 + i, is[i], want[i])),
             None => Ok(()),

@@ -1,19 +1,36 @@
 // Written by tools/plain from crates/call_words/src/reply.rt: change that.
-//! A reply as a number and a word, and as four words.
+//! A reply as a number and a report, as four words, and as the five of a step.
 
 use crate::stage1::cpu::call::Reply;
 use crate::stage1::exception::kind::{Exception, Stop};
+use crate::stage1::tlb::work::Work;
 use crate::stage1::word::bits;
 
-/// The number of an exception that stops an operation, and the address of a data abort.
+/// What a call reports beside its number. With a number from 1 to 255 nothing of it is written.
+#[repr(C)]
+#[derive(Clone, Copy, Debug, PartialEq, Eq)]
+pub struct Report {
+    /// the value, or of a data abort its address; what has neither leaves it
+    pub value: u64,
+    /// the table descriptors that the call's walks read
+    pub reads: u64,
+}
+
+/// The number of an exception that stops an operation, and the report of an abort.
 #[inline]
-fn put_answer(e: Exception, ans: &mut u64) -> u64 {
+fn put_answer(e: Exception, work: Work, ans: &mut Report) -> u64 {
     match e {
         Exception::DataAbort(a) => {
-            *ans = a.addr;
+            *ans = Report {
+                value: a.addr,
+                reads: work.reads,
+            };
             256 + a.fault.fsc as u64
         }
-        Exception::InsnAbort(a) => 256 + a.fault.fsc as u64,
+        Exception::InsnAbort(a) => {
+            ans.reads = work.reads;
+            256 + a.fault.fsc as u64
+        }
         Exception::Undefined => 65,
         Exception::Svc(_) => 65,
         Exception::Hvc(_) => 65,
@@ -24,43 +41,51 @@ fn put_answer(e: Exception, ans: &mut u64) -> u64 {
 }
 
 #[inline]
-fn stopped(stop: Stop, ans: &mut u64) -> u64 {
+fn stopped(stop: Stop, work: Work, ans: &mut Report) -> u64 {
     match stop {
-        Stop::Exception(e) => put_answer(e, ans),
+        Stop::Exception(e) => put_answer(e, work, ans),
         Stop::Unimplemented => 66,
     }
 }
 
-/// The number of a store's answer, and in ans the address of its data abort.
+/// The number of a store's answer, and in ans the address of its data abort and what was read.
 #[inline]
-pub fn stored(answer: Result<(), Stop>, ans: &mut u64) -> u64 {
+pub fn stored(answer: Result<(), Stop>, work: Work, ans: &mut Report) -> u64 {
     match answer {
-        Ok(()) => 0,
-        Err(stop) => stopped(stop, ans),
-    }
-}
-
-/// The number of a reply, and in ans its value or the address of its data abort.
-#[inline]
-pub fn answer(reply: Reply, ans: &mut u64) -> u64 {
-    match reply {
-        Reply::Refused(n) => n as u64,
-        Reply::Done => 0,
-        Reply::Value(v) => {
-            *ans = v;
+        Ok(()) => {
+            ans.reads = work.reads;
             0
         }
-        Reply::Faults => 256,
-        Reply::Fault { addr: _, fault } => 256 + fault.fsc as u64,
-        Reply::Stopped(stop) => stopped(stop, ans),
+        Err(stop) => stopped(stop, work, ans),
     }
 }
 
-/// Its number alone.
+/// The number of a reply, and in ans its value or the address of its data abort, and what was read.
 #[inline]
-pub fn number(reply: Reply) -> u64 {
-    let mut dropped: u64 = 0;
-    answer(reply, &mut dropped)
+pub fn answer(reply: Reply, work: Work, ans: &mut Report) -> u64 {
+    match reply {
+        Reply::Refused(n) => n as u64,
+        Reply::Done => {
+            ans.reads = work.reads;
+            0
+        }
+        Reply::Value(v) => {
+            *ans = Report {
+                value: v,
+                reads: work.reads,
+            };
+            0
+        }
+        Reply::Faults => {
+            ans.reads = work.reads;
+            256
+        }
+        Reply::Fault { addr: _, fault } => {
+            ans.reads = work.reads;
+            256 + fault.fsc as u64
+        }
+        Reply::Stopped(stop) => stopped(stop, work, ans),
+    }
 }
 
 #[inline]
@@ -99,4 +124,13 @@ pub fn words(reply: Reply) -> [u64; 4] {
         Reply::Fault { addr, fault } => [8, addr, fault.fsc as u64, 0],
         Reply::Stopped(stop) => stop_words(stop),
     }
+}
+
+/// The four words, and then what was read: 0 where nothing of a report is written.
+#[inline]
+pub fn step_words(reply: Reply, work: Work) -> [u64; 5] {
+    let mut report = Report { value: 0, reads: 0 };
+    answer(reply, work, &mut report);
+    let [kind, a, b, c] = words(reply);
+    [kind, a, b, c, report.reads]
 }

@@ -8,6 +8,7 @@ use crate::stage1::fault::Fault;
 use crate::stage1::sysreg::regs::Regime;
 use crate::stage1::tlb::access::{Kind, Request};
 use crate::stage1::tlb::hint::FetchHint;
+use crate::stage1::tlb::work::Work;
 use crate::stage1::walk::fsc::FSC_EXTERNAL;
 use crate::stage1::walk::regime::Bank;
 use crate::stage1::word::ram::Width;
@@ -46,38 +47,59 @@ impl Core {
 
     /// A translation by a walk: where one is needed, the translation.
     #[inline(always)]
-    pub fn by_walk(&mut self, base: u64, ram: &[u8], va: u64, kind: Kind) -> Result<u64, Fault> {
+    pub fn by_walk(
+        &mut self,
+        base: u64,
+        ram: &[u8],
+        va: u64,
+        kind: Kind,
+        work: &mut Work,
+    ) -> Result<u64, Fault> {
         let a = self.request(va, kind);
-        self.tlb.by_walk(a, base, ram)
+        self.tlb.by_walk(a, base, ram, work)
     }
 
     /// A translation that no hint serves. Out of line, and reads the registers itself, so that a hint pays nothing for
     /// it.
     #[inline(never)]
-    fn translate_slow(&mut self, base: u64, ram: &[u8], va: u64, kind: Kind) -> Result<u64, Fault> {
+    fn translate_slow(
+        &mut self,
+        base: u64,
+        ram: &[u8],
+        va: u64,
+        kind: Kind,
+        work: &mut Work,
+    ) -> Result<u64, Fault> {
         match self.at_hand(base, ram, va, kind) {
             Some(answer) => answer,
-            None => self.by_walk(base, ram, va, kind),
+            None => self.by_walk(base, ram, va, kind, work),
         }
     }
 
     /// Where an access of the kind to va goes: the data hint first, which is asked once. The fetch hint is neither used
     /// nor set.
     #[inline]
-    pub fn translate(&mut self, base: u64, ram: &[u8], va: u64, kind: Kind) -> Result<u64, Fault> {
+    pub fn translate(
+        &mut self,
+        base: u64,
+        ram: &[u8],
+        va: u64,
+        kind: Kind,
+        work: &mut Work,
+    ) -> Result<u64, Fault> {
         match self.tlb.by_hint(self.privilege, va, kind) {
             Some(pa) => Ok(pa),
-            None => self.translate_slow(base, ram, va, kind),
+            None => self.translate_slow(base, ram, va, kind, work),
         }
     }
 
     /// The translation that a fetch begins with: by the fetch hint, and else one that leaves it.
     #[inline]
-    pub fn translate_fetch(&mut self, base: u64, ram: &[u8], va: u64) -> Result<u64, Fault> {
+    pub fn translate_fetch(&mut self, base: u64, ram: &[u8], va: u64, work: &mut Work) -> Result<u64, Fault> {
         if let Some(pa) = self.tlb.by_fetch_hint(self.privilege.level, va) {
             return Ok(pa);
         }
-        let pa = self.translate_slow(base, ram, va, Kind::Fetch)?;
+        let pa = self.translate_slow(base, ram, va, Kind::Fetch, work)?;
         self.tlb.fetch = Some(FetchHint::new(va, self.privilege.level, pa));
         Ok(pa)
     }
@@ -92,9 +114,10 @@ impl Core {
         va: u64,
         width: Width,
         kind: Kind,
+        work: &mut Work,
     ) -> Result<Place, FaultAt> {
         let on = self.bank().stage1_on(self.regime());
-        let first = self.translate(base, ram, va, kind);
+        let first = self.translate(base, ram, va, kind, work);
         let pa = first.map_err(|fault| FaultAt {
             addr: va,
             fault,
@@ -104,7 +127,7 @@ impl Core {
             return Ok(Place::Whole(pa));
         }
         let next = place::next_page(va);
-        let second = self.translate(base, ram, next, kind);
+        let second = self.translate(base, ram, next, kind, work);
         let pa2 = second.map_err(|fault| FaultAt {
             addr: next,
             fault,
@@ -118,8 +141,15 @@ impl Core {
     /// have succeeded, also where the load then aborts. An error is a data abort of a read: a fault of its page, or an
     /// external abort at the lowest byte outside RAM, whose physical address `abort_pa` then is.
     #[inline]
-    pub fn read(&mut self, base: u64, ram: &[u8], va: u64, width: Width) -> Result<u64, Stop> {
-        let place = match self.translate_access(base, ram, va, width, Kind::Read) {
+    pub fn read(
+        &mut self,
+        base: u64,
+        ram: &[u8],
+        va: u64,
+        width: Width,
+        work: &mut Work,
+    ) -> Result<u64, Stop> {
+        let place = match self.translate_access(base, ram, va, width, Kind::Read, work) {
             Ok(place) => place,
             Err(at) => return Err(self.failed(base, ram, va, at, false)),
         };
@@ -140,8 +170,9 @@ impl Core {
         va: u64,
         width: Width,
         value: u64,
+        work: &mut Work,
     ) -> Result<(), Stop> {
-        let place = match self.translate_access(base, ram, va, width, Kind::Write) {
+        let place = match self.translate_access(base, ram, va, width, Kind::Write, work) {
             Ok(place) => place,
             Err(at) => return Err(self.failed(base, ram, va, at, true)),
         };
@@ -170,8 +201,8 @@ impl Core {
 
     /// The instruction at va, by the fetch hint first: four bytes, never split. An error is an instruction abort at va.
     #[inline]
-    pub fn fetch(&mut self, base: u64, ram: &[u8], va: u64) -> Result<u32, Exception> {
-        let at = self.translate_fetch(base, ram, va);
+    pub fn fetch(&mut self, base: u64, ram: &[u8], va: u64, work: &mut Work) -> Result<u32, Exception> {
+        let at = self.translate_fetch(base, ram, va, work);
         let pa = at.map_err(|fault| Exception::InsnAbort(InsnAbort { addr: va, fault }))?;
         match bytes::insn_at(base, ram, pa) {
             Some(insn) => Ok(insn),
@@ -191,13 +222,13 @@ impl Core {
 
     /// Where a fetch of va goes, by the same hint, which a new page refreshes.
     #[inline]
-    pub fn fetch_pa(&mut self, base: u64, ram: &[u8], va: u64) -> Option<u64> {
-        self.translate_fetch(base, ram, va).ok()
+    pub fn fetch_pa(&mut self, base: u64, ram: &[u8], va: u64, work: &mut Work) -> Option<u64> {
+        self.translate_fetch(base, ram, va, work).ok()
     }
 
     /// Where a data read of va goes.
     #[inline]
-    pub fn data_pa(&mut self, base: u64, ram: &[u8], va: u64) -> Option<u64> {
-        self.translate(base, ram, va, Kind::Read).ok()
+    pub fn data_pa(&mut self, base: u64, ram: &[u8], va: u64, work: &mut Work) -> Option<u64> {
+        self.translate(base, ram, va, Kind::Read, work).ok()
     }
 }

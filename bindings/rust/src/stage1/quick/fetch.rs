@@ -1,20 +1,31 @@
 // Written by tools/plain from crates/quick/src/fetch.rt: change that.
-//! A fetch on a core that is lent, and where one goes: the number, and the instruction or the address in ans. Both are
-//! one text: INSN says whether the instruction is read.
+//! A fetch on a core that is lent, and where one goes: the number, and in ans the instruction or the address, and what
+//! was read. Both are one text: INSN says whether the instruction is read.
 
+use crate::stage1::call_words::reply::Report;
 use crate::stage1::cpu::{Core, bytes, check};
 use crate::stage1::fault::Fault;
 use crate::stage1::quick::translation;
 use crate::stage1::tlb::access::Kind;
 use crate::stage1::tlb::hint::FetchHint;
+use crate::stage1::tlb::work::Work;
 
 /// The end of a fetch, after its translation.
 #[inline(always)]
-fn read(core: &mut Core, va: u64, answer: Result<u64, Fault>, ans: &mut u64, base: u64, ram: &[u8]) -> u64 {
+fn read(
+    core: &mut Core,
+    va: u64,
+    answer: Result<u64, Fault>,
+    work: Work,
+    ans: &mut Report,
+    base: u64,
+    ram: &[u8],
+) -> u64 {
+    ans.reads = work.reads;
     match answer {
         Ok(pa) => match bytes::insn_at(base, ram, pa) {
             Some(v) => {
-                *ans = v as u64;
+                ans.value = v as u64;
                 0
             }
             None => {
@@ -31,14 +42,15 @@ fn ended<const INSN: bool>(
     core: &mut Core,
     va: u64,
     answer: Result<u64, Fault>,
-    ans: &mut u64,
+    work: Work,
+    ans: &mut Report,
     base: u64,
     ram: &[u8],
 ) -> u64 {
     if INSN {
-        read(core, va, answer, ans, base, ram)
+        read(core, va, answer, work, ans, base, ram)
     } else {
-        translation::reached(answer, ans)
+        translation::reached(answer, work, ans)
     }
 }
 
@@ -52,27 +64,28 @@ fn leave(core: &mut Core, va: u64, answer: Result<u64, Fault>) {
 
 /// By a walk.
 #[inline(never)]
-fn by_walk<const INSN: bool>(core: &mut Core, va: u64, ans: &mut u64, base: u64, ram: &[u8]) -> u64 {
-    let answer = core.by_walk(base, ram, va, Kind::Fetch);
+fn by_walk<const INSN: bool>(core: &mut Core, va: u64, ans: &mut Report, base: u64, ram: &[u8]) -> u64 {
+    let mut work = Work::none();
+    let answer = core.by_walk(base, ram, va, Kind::Fetch, &mut work);
     leave(core, va, answer);
-    ended::<INSN>(core, va, answer, ans, base, ram)
+    ended::<INSN>(core, va, answer, work, ans, base, ram)
 }
 
 #[inline(never)]
-fn past_hint<const INSN: bool>(core: &mut Core, va: u64, ans: &mut u64, base: u64, ram: &[u8]) -> u64 {
+fn past_hint<const INSN: bool>(core: &mut Core, va: u64, ans: &mut Report, base: u64, ram: &[u8]) -> u64 {
     match core.at_hand(base, ram, va, Kind::Fetch) {
         Some(answer) => {
             leave(core, va, answer);
-            ended::<INSN>(core, va, answer, ans, base, ram)
+            ended::<INSN>(core, va, answer, Work::none(), ans, base, ram)
         }
         None => by_walk::<INSN>(core, va, ans, base, ram),
     }
 }
 
 #[inline(always)]
-fn by_hint<const INSN: bool>(core: &mut Core, va: u64, ans: &mut u64, base: u64, ram: &[u8]) -> u64 {
+fn by_hint<const INSN: bool>(core: &mut Core, va: u64, ans: &mut Report, base: u64, ram: &[u8]) -> u64 {
     match core.tlb.by_fetch_hint(core.privilege.level, va) {
-        Some(pa) => ended::<INSN>(core, va, Ok(pa), ans, base, ram),
+        Some(pa) => ended::<INSN>(core, va, Ok(pa), Work::none(), ans, base, ram),
         None => past_hint::<INSN>(core, va, ans, base, ram),
     }
 }
@@ -80,7 +93,7 @@ fn by_hint<const INSN: bool>(core: &mut Core, va: u64, ans: &mut u64, base: u64,
 /// A level above 3, or a window that ends at 2^64 or past it: the checks by name.
 #[cold]
 #[inline(never)]
-fn checked<const INSN: bool>(core: &mut Core, va: u64, ans: &mut u64, base: u64, ram: &[u8]) -> u64 {
+fn checked<const INSN: bool>(core: &mut Core, va: u64, ans: &mut Report, base: u64, ram: &[u8]) -> u64 {
     match check::with_ram(core.privilege.level, base, ram.len() as u64) {
         Ok(()) => by_hint::<INSN>(core, va, ans, base, ram),
         Err(missed) => missed.number() as u64,
@@ -88,7 +101,7 @@ fn checked<const INSN: bool>(core: &mut Core, va: u64, ans: &mut u64, base: u64,
 }
 
 #[inline(always)]
-fn asked<const INSN: bool>(core: &mut Core, va: u64, ans: &mut u64, base: u64, ram: &[u8]) -> u64 {
+fn asked<const INSN: bool>(core: &mut Core, va: u64, ans: &mut Report, base: u64, ram: &[u8]) -> u64 {
     if 3 < core.privilege.level {
         checked::<INSN>(core, va, ans, base, ram)
     } else if u64::MAX - (ram.len() as u64) < base {
@@ -99,13 +112,13 @@ fn asked<const INSN: bool>(core: &mut Core, va: u64, ans: &mut u64, base: u64, r
 }
 
 /// The instruction at va.
-#[inline]
-pub fn fetch(core: &mut Core, va: u64, ans: &mut u64, base: u64, ram: &[u8]) -> u64 {
+#[inline(always)]
+pub fn fetch(core: &mut Core, va: u64, ans: &mut Report, base: u64, ram: &[u8]) -> u64 {
     asked::<true>(core, va, ans, base, ram)
 }
 
 /// Where a fetch of va goes, by the same hint, which a new page refreshes.
-#[inline]
-pub fn fetch_pa(core: &mut Core, va: u64, ans: &mut u64, base: u64, ram: &[u8]) -> u64 {
+#[inline(always)]
+pub fn fetch_pa(core: &mut Core, va: u64, ans: &mut Report, base: u64, ram: &[u8]) -> u64 {
     asked::<false>(core, va, ans, base, ram)
 }

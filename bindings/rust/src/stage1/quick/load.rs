@@ -1,28 +1,30 @@
 // Written by tools/plain from crates/quick/src/load.rt: change that.
-//! A load on a core that is lent: its number, and its value in ans.
+//! A load on a core that is lent: its number, and in ans its value and what it read.
 
-use crate::stage1::call_words::reply;
+use crate::stage1::call_words::reply::{self, Report};
 use crate::stage1::cpu::call::Reply;
 use crate::stage1::cpu::{Core, check, place};
 use crate::stage1::fault::Fault;
 use crate::stage1::quick::instance::Datum;
 use crate::stage1::quick::split;
 use crate::stage1::tlb::access::Kind;
+use crate::stage1::tlb::work::Work;
 use crate::stage1::word::ram;
 use crate::stage1::word::ram::Width;
 
 /// The core's own load, for what is not served at once.
 #[cold]
 #[inline(never)]
-fn own(core: &mut Core, va: u64, width: Width, ans: &mut u64, base: u64, ram: &[u8]) -> u64 {
-    let r = Reply::from(core.read(base, ram, va, width));
-    reply::answer(r, ans)
+fn own(core: &mut Core, va: u64, width: Width, ans: &mut Report, base: u64, ram: &[u8]) -> u64 {
+    let mut work = Work::none();
+    let r = Reply::from(core.read(base, ram, va, width, &mut work));
+    reply::answer(r, work, ans)
 }
 
 /// Any size, and a window that ends at 2^64 or past it: the checks by name.
 #[cold]
 #[inline(never)]
-fn checked(core: &mut Core, va: u64, size: u64, ans: &mut u64, base: u64, ram: &[u8]) -> u64 {
+fn checked(core: &mut Core, va: u64, size: u64, ans: &mut Report, base: u64, ram: &[u8]) -> u64 {
     match check::sized(core.privilege.level, base, ram.len() as u64, size) {
         Ok(width) => own(core, va, width, ans, base, ram),
         Err(missed) => missed.number() as u64,
@@ -31,10 +33,10 @@ fn checked(core: &mut Core, va: u64, size: u64, ans: &mut u64, base: u64, ram: &
 
 /// Two pages: at once by both hints, or by the core's own load.
 #[inline(never)]
-fn pages<W: Datum>(core: &mut Core, va: u64, ans: &mut u64, base: u64, ram: &[u8]) -> u64 {
+fn pages<W: Datum>(core: &mut Core, va: u64, ans: &mut Report, base: u64, ram: &[u8]) -> u64 {
     if let Some((first, v)) = split::load(core, va, W::WIDTH, base, ram) {
         core.last_pa = first;
-        *ans = v;
+        *ans = Report { value: v, reads: 0 };
         return 0;
     }
     own(core, va, W::WIDTH, ans, base, ram)
@@ -46,27 +48,29 @@ fn ended<W: Datum>(
     core: &mut Core,
     va: u64,
     answer: Result<u64, Fault>,
-    ans: &mut u64,
+    work: Work,
+    ans: &mut Report,
     base: u64,
     ram: &[u8],
 ) -> u64 {
+    ans.reads = work.reads;
     match answer {
         Ok(pa) => {
             core.last_pa = pa;
             match ram::read(base, ram, W::WIDTH, pa) {
                 Some(v) => {
-                    *ans = v;
+                    ans.value = v;
                     0
                 }
                 None => {
                     core.abort_pa = pa;
-                    *ans = va;
+                    ans.value = va;
                     272
                 }
             }
         }
         Err(fault) => {
-            *ans = va;
+            ans.value = va;
             256 + fault.fsc as u64
         }
     }
@@ -74,32 +78,33 @@ fn ended<W: Datum>(
 
 /// By a walk.
 #[inline(never)]
-fn by_walk<W: Datum>(core: &mut Core, va: u64, ans: &mut u64, base: u64, ram: &[u8]) -> u64 {
-    let answer = core.by_walk(base, ram, va, Kind::Read);
-    ended::<W>(core, va, answer, ans, base, ram)
+fn by_walk<W: Datum>(core: &mut Core, va: u64, ans: &mut Report, base: u64, ram: &[u8]) -> u64 {
+    let mut work = Work::none();
+    let answer = core.by_walk(base, ram, va, Kind::Read, &mut work);
+    ended::<W>(core, va, answer, work, ans, base, ram)
 }
 
 #[inline(never)]
-fn past_hint<W: Datum>(core: &mut Core, va: u64, ans: &mut u64, base: u64, ram: &[u8]) -> u64 {
+fn past_hint<W: Datum>(core: &mut Core, va: u64, ans: &mut Report, base: u64, ram: &[u8]) -> u64 {
     match core.at_hand(base, ram, va, Kind::Read) {
-        Some(answer) => ended::<W>(core, va, answer, ans, base, ram),
+        Some(answer) => ended::<W>(core, va, answer, Work::none(), ans, base, ram),
         None => by_walk::<W>(core, va, ans, base, ram),
     }
 }
 
 #[inline(always)]
-fn by_hint<W: Datum>(core: &mut Core, va: u64, ans: &mut u64, base: u64, ram: &[u8]) -> u64 {
+fn by_hint<W: Datum>(core: &mut Core, va: u64, ans: &mut Report, base: u64, ram: &[u8]) -> u64 {
     if place::in_page(va) < W::WIDTH.bytes() {
         return pages::<W>(core, va, ans, base, ram);
     }
     match core.tlb.by_hint(core.privilege, va, Kind::Read) {
-        Some(pa) => ended::<W>(core, va, Ok(pa), ans, base, ram),
+        Some(pa) => ended::<W>(core, va, Ok(pa), Work::none(), ans, base, ram),
         None => past_hint::<W>(core, va, ans, base, ram),
     }
 }
 
 #[inline(always)]
-fn load_as<W: Datum>(core: &mut Core, va: u64, ans: &mut u64, base: u64, ram: &[u8]) -> u64 {
+fn load_as<W: Datum>(core: &mut Core, va: u64, ans: &mut Report, base: u64, ram: &[u8]) -> u64 {
     if 3 < core.privilege.level {
         checked(core, va, W::WIDTH.bytes(), ans, base, ram)
     } else if u64::MAX - (ram.len() as u64) < base {
@@ -110,8 +115,8 @@ fn load_as<W: Datum>(core: &mut Core, va: u64, ans: &mut u64, base: u64, ram: &[
 }
 
 /// A load of 1, 2, 4 or 8 bytes. The tests come in this order for the sake of the commonest size.
-#[inline]
-pub fn load(core: &mut Core, va: u64, size: u64, ans: &mut u64, base: u64, ram: &[u8]) -> u64 {
+#[inline(always)]
+pub fn load(core: &mut Core, va: u64, size: u64, ans: &mut Report, base: u64, ram: &[u8]) -> u64 {
     if 4 < size {
         if size == 8 {
             load_as::<u64>(core, va, ans, base, ram)

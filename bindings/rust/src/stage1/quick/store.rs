@@ -1,27 +1,45 @@
 // Written by tools/plain from crates/quick/src/store.rt: change that.
-//! A store on a core that is lent: its number, RAM, and in ans the address of a data abort.
+//! A store on a core that is lent: its number, RAM, and in ans the address of a data abort and what it read.
 
-use crate::stage1::call_words::reply;
+use crate::stage1::call_words::reply::{self, Report};
 use crate::stage1::cpu::{Core, check, place};
 use crate::stage1::fault::Fault;
 use crate::stage1::quick::instance::Datum;
 use crate::stage1::quick::split;
 use crate::stage1::tlb::access::Kind;
+use crate::stage1::tlb::work::Work;
 use crate::stage1::word::ram;
 use crate::stage1::word::ram::Width;
 
 /// The core's own store, for what is not served at once.
 #[cold]
 #[inline(never)]
-fn own(core: &mut Core, va: u64, width: Width, value: u64, ans: &mut u64, base: u64, ram: &mut [u8]) -> u64 {
-    let answer = core.write(base, ram, va, width, value);
-    reply::stored(answer, ans)
+fn own(
+    core: &mut Core,
+    va: u64,
+    width: Width,
+    value: u64,
+    ans: &mut Report,
+    base: u64,
+    ram: &mut [u8],
+) -> u64 {
+    let mut work = Work::none();
+    let answer = core.write(base, ram, va, width, value, &mut work);
+    reply::stored(answer, work, ans)
 }
 
 /// Any size, and a window that ends at 2^64 or past it: the checks by name.
 #[cold]
 #[inline(never)]
-fn checked(core: &mut Core, va: u64, size: u64, value: u64, ans: &mut u64, base: u64, ram: &mut [u8]) -> u64 {
+fn checked(
+    core: &mut Core,
+    va: u64,
+    size: u64,
+    value: u64,
+    ans: &mut Report,
+    base: u64,
+    ram: &mut [u8],
+) -> u64 {
     match check::sized(core.privilege.level, base, ram.len() as u64, size) {
         Ok(width) => own(core, va, width, value, ans, base, ram),
         Err(missed) => missed.number() as u64,
@@ -30,8 +48,9 @@ fn checked(core: &mut Core, va: u64, size: u64, value: u64, ans: &mut u64, base:
 
 /// Two pages: at once by both hints, or by the core's own store.
 #[inline(never)]
-fn pages<W: Datum>(core: &mut Core, va: u64, value: u64, ans: &mut u64, base: u64, ram: &mut [u8]) -> u64 {
+fn pages<W: Datum>(core: &mut Core, va: u64, value: u64, ans: &mut Report, base: u64, ram: &mut [u8]) -> u64 {
     if split::store(core, va, W::WIDTH, value, base, ram) {
+        ans.reads = 0;
         return 0;
     }
     own(core, va, W::WIDTH, value, ans, base, ram)
@@ -43,23 +62,25 @@ fn ended<W: Datum>(
     core: &mut Core,
     va: u64,
     answer: Result<u64, Fault>,
+    work: Work,
     value: u64,
-    ans: &mut u64,
+    ans: &mut Report,
     base: u64,
     ram: &mut [u8],
 ) -> u64 {
+    ans.reads = work.reads;
     match answer {
         Ok(pa) => {
             if ram::write(base, ram, W::WIDTH, pa, value) {
                 0
             } else {
                 core.abort_pa = pa;
-                *ans = va;
+                ans.value = va;
                 272
             }
         }
         Err(fault) => {
-            *ans = va;
+            ans.value = va;
             256 + fault.fsc as u64
         }
     }
@@ -67,9 +88,17 @@ fn ended<W: Datum>(
 
 /// By a walk.
 #[inline(never)]
-fn by_walk<W: Datum>(core: &mut Core, va: u64, value: u64, ans: &mut u64, base: u64, ram: &mut [u8]) -> u64 {
-    let answer = core.by_walk(base, ram, va, Kind::Write);
-    ended::<W>(core, va, answer, value, ans, base, ram)
+fn by_walk<W: Datum>(
+    core: &mut Core,
+    va: u64,
+    value: u64,
+    ans: &mut Report,
+    base: u64,
+    ram: &mut [u8],
+) -> u64 {
+    let mut work = Work::none();
+    let answer = core.by_walk(base, ram, va, Kind::Write, &mut work);
+    ended::<W>(core, va, answer, work, value, ans, base, ram)
 }
 
 #[inline(never)]
@@ -77,29 +106,43 @@ fn past_hint<W: Datum>(
     core: &mut Core,
     va: u64,
     value: u64,
-    ans: &mut u64,
+    ans: &mut Report,
     base: u64,
     ram: &mut [u8],
 ) -> u64 {
     match core.at_hand(base, ram, va, Kind::Write) {
-        Some(answer) => ended::<W>(core, va, answer, value, ans, base, ram),
+        Some(answer) => ended::<W>(core, va, answer, Work::none(), value, ans, base, ram),
         None => by_walk::<W>(core, va, value, ans, base, ram),
     }
 }
 
 #[inline(always)]
-fn by_hint<W: Datum>(core: &mut Core, va: u64, value: u64, ans: &mut u64, base: u64, ram: &mut [u8]) -> u64 {
+fn by_hint<W: Datum>(
+    core: &mut Core,
+    va: u64,
+    value: u64,
+    ans: &mut Report,
+    base: u64,
+    ram: &mut [u8],
+) -> u64 {
     if place::in_page(va) < W::WIDTH.bytes() {
         return pages::<W>(core, va, value, ans, base, ram);
     }
     match core.tlb.by_hint(core.privilege, va, Kind::Write) {
-        Some(pa) => ended::<W>(core, va, Ok(pa), value, ans, base, ram),
+        Some(pa) => ended::<W>(core, va, Ok(pa), Work::none(), value, ans, base, ram),
         None => past_hint::<W>(core, va, value, ans, base, ram),
     }
 }
 
 #[inline(always)]
-fn store_as<W: Datum>(core: &mut Core, va: u64, value: u64, ans: &mut u64, base: u64, ram: &mut [u8]) -> u64 {
+fn store_as<W: Datum>(
+    core: &mut Core,
+    va: u64,
+    value: u64,
+    ans: &mut Report,
+    base: u64,
+    ram: &mut [u8],
+) -> u64 {
     if 3 < core.privilege.level {
         checked(core, va, W::WIDTH.bytes(), value, ans, base, ram)
     } else if u64::MAX - (ram.len() as u64) < base {
@@ -110,13 +153,13 @@ fn store_as<W: Datum>(core: &mut Core, va: u64, value: u64, ans: &mut u64, base:
 }
 
 /// A store of the low 1, 2, 4 or 8 bytes of a value. The tests come in this order for the sake of the commonest size.
-#[inline]
+#[inline(always)]
 pub fn store(
     core: &mut Core,
     va: u64,
     size: u64,
     value: u64,
-    ans: &mut u64,
+    ans: &mut Report,
     base: u64,
     ram: &mut [u8],
 ) -> u64 {

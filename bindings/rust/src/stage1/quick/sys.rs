@@ -1,11 +1,12 @@
 // Written by tools/plain from crates/quick/src/sys.rt: change that.
-//! A system operation on a core that is lent: its number, RAM, and in ans the address of a data abort.
+//! A system operation on a core that is lent: its number, RAM, and in ans the address of a data abort and what it read.
 
-use crate::stage1::call_words::reply;
+use crate::stage1::call_words::reply::{self, Report};
 use crate::stage1::cpu::{Core, check};
 use crate::stage1::system::decode;
 use crate::stage1::system::decode::{Encoding, SysOp};
 use crate::stage1::tlb::access::Kind;
+use crate::stage1::tlb::work::Work;
 use crate::stage1::word::ram;
 
 /// 64 zero bytes at the line va by its page's hint, where it points at a line of RAM, and whether they are written.
@@ -19,12 +20,14 @@ fn clear(core: &Core, base: u64, ram: &mut [u8], va: u64) -> bool {
 
 /// DC ZVA: by one hint, or by its eight stores.
 #[inline]
-fn zva(core: &mut Core, ans: &mut u64, base: u64, ram: &mut [u8], x: u64) -> u64 {
+fn zva(core: &mut Core, ans: &mut Report, base: u64, ram: &mut [u8], x: u64) -> u64 {
     if clear(core, base, ram, x - x % 64) {
+        ans.reads = 0;
         return 0;
     }
-    let answer = core.zva(base, ram, x);
-    reply::stored(answer, ans)
+    let mut work = Work::none();
+    let answer = core.zva(base, ram, x, &mut work);
+    reply::stored(answer, work, ans)
 }
 
 /// TLBI, out of line, so that its loop over the entries has the registers to itself.
@@ -35,19 +38,25 @@ fn tlbi(core: &mut Core, e: Encoding, x: u64) {
 
 /// The operation past its checks.
 #[inline]
-fn operate(core: &mut Core, e: Encoding, ans: &mut u64, base: u64, ram: &mut [u8]) -> u64 {
+fn operate(core: &mut Core, e: Encoding, ans: &mut Report, base: u64, ram: &mut [u8]) -> u64 {
     let x = core.reg(e.rt);
     match decode::decode(core.privilege.level, e) {
         SysOp::At(form) => {
-            core.at(base, ram, form, x);
+            let mut work = Work::none();
+            core.at(base, ram, form, x, &mut work);
+            ans.reads = work.reads;
             0
         }
         SysOp::Tlbi => {
             tlbi(core, e, x);
+            ans.reads = 0;
             0
         }
         SysOp::Zva => zva(core, ans, base, ram, x),
-        SysOp::Nothing => 0,
+        SysOp::Nothing => {
+            ans.reads = 0;
+            0
+        }
         SysOp::Undefined => 65,
         SysOp::Unimplemented => 66,
     }
@@ -62,7 +71,7 @@ pub fn system(
     crm: u64,
     op2: u64,
     rt: u64,
-    ans: &mut u64,
+    ans: &mut Report,
     base: u64,
     ram: &mut [u8],
 ) -> u64 {

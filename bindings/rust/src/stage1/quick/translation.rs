@@ -1,18 +1,21 @@
 // Written by tools/plain from crates/quick/src/translation.rt: change that.
-//! One translation on a core that is lent, and where a data read goes: the number, and the address in ans. Both are one
-//! text: TELLS says whether a fault is told by its status, or as no more than that.
+//! One translation on a core that is lent, and where a data read goes: the number, and in ans the address and what was
+//! read. Both are one text: TELLS says whether a fault is told by its status, or as no more than that.
 
+use crate::stage1::call_words::reply::Report;
 use crate::stage1::cpu::{Core, check};
 use crate::stage1::fault::Fault;
 use crate::stage1::quick::hint;
 use crate::stage1::quick::instance::{Fetching, Purpose, Reading, Writing};
+use crate::stage1::tlb::work::Work;
 
 /// The answer of a translation.
 #[inline(always)]
-fn told<const TELLS: bool>(answer: Result<u64, Fault>, ans: &mut u64) -> u64 {
+fn told<const TELLS: bool>(answer: Result<u64, Fault>, work: Work, ans: &mut Report) -> u64 {
+    ans.reads = work.reads;
     match answer {
         Ok(pa) => {
-            *ans = pa;
+            ans.value = pa;
             0
         }
         Err(fault) => {
@@ -27,8 +30,8 @@ fn told<const TELLS: bool>(answer: Result<u64, Fault>, ans: &mut u64) -> u64 {
 
 /// Where an access goes, a fault told as no more than that.
 #[inline(always)]
-pub(crate) fn reached(answer: Result<u64, Fault>, ans: &mut u64) -> u64 {
-    told::<false>(answer, ans)
+pub(crate) fn reached(answer: Result<u64, Fault>, work: Work, ans: &mut Report) -> u64 {
+    told::<false>(answer, work, ans)
 }
 
 /// By a walk.
@@ -36,12 +39,13 @@ pub(crate) fn reached(answer: Result<u64, Fault>, ans: &mut u64) -> u64 {
 fn by_walk<P: Purpose, const TELLS: bool>(
     core: &mut Core,
     va: u64,
-    ans: &mut u64,
+    ans: &mut Report,
     base: u64,
     ram: &[u8],
 ) -> u64 {
-    let answer = core.by_walk(base, ram, va, P::KIND);
-    told::<TELLS>(answer, ans)
+    let mut work = Work::none();
+    let answer = core.by_walk(base, ram, va, P::KIND, &mut work);
+    told::<TELLS>(answer, work, ans)
 }
 
 /// With stage 1 off, by an entry, or by a walk: each out of line of what comes before it, with six words to hand on.
@@ -49,12 +53,12 @@ fn by_walk<P: Purpose, const TELLS: bool>(
 fn past_hint<P: Purpose, const TELLS: bool>(
     core: &mut Core,
     va: u64,
-    ans: &mut u64,
+    ans: &mut Report,
     base: u64,
     ram: &[u8],
 ) -> u64 {
     match core.at_hand(base, ram, va, P::KIND) {
-        Some(answer) => told::<TELLS>(answer, ans),
+        Some(answer) => told::<TELLS>(answer, Work::none(), ans),
         None => by_walk::<P, TELLS>(core, va, ans, base, ram),
     }
 }
@@ -63,12 +67,12 @@ fn past_hint<P: Purpose, const TELLS: bool>(
 fn by_hint<P: Purpose, const TELLS: bool>(
     core: &mut Core,
     va: u64,
-    ans: &mut u64,
+    ans: &mut Report,
     base: u64,
     ram: &[u8],
 ) -> u64 {
     match core.tlb.by_hint(core.privilege, va, P::KIND) {
-        Some(pa) => told::<TELLS>(Ok(pa), ans),
+        Some(pa) => told::<TELLS>(Ok(pa), Work::none(), ans),
         None => past_hint::<P, TELLS>(core, va, ans, base, ram),
     }
 }
@@ -79,7 +83,7 @@ fn by_hint<P: Purpose, const TELLS: bool>(
 fn checked<P: Purpose, const TELLS: bool>(
     core: &mut Core,
     va: u64,
-    ans: &mut u64,
+    ans: &mut Report,
     base: u64,
     ram: &[u8],
 ) -> u64 {
@@ -94,7 +98,7 @@ fn checked<P: Purpose, const TELLS: bool>(
 fn rest<P: Purpose, const TELLS: bool>(
     core: &mut Core,
     va: u64,
-    ans: &mut u64,
+    ans: &mut Report,
     base: u64,
     ram: &[u8],
 ) -> u64 {
@@ -108,16 +112,16 @@ fn rest<P: Purpose, const TELLS: bool>(
 }
 
 #[inline(never)]
-fn data_rest(core: &mut Core, va: u64, ans: &mut u64, base: u64, ram: &[u8]) -> u64 {
+fn data_rest(core: &mut Core, va: u64, ans: &mut Report, base: u64, ram: &[u8]) -> u64 {
     rest::<Reading, false>(core, va, ans, base, ram)
 }
 
 /// Where a data read of va goes.
-#[inline]
-pub fn data_pa(core: &mut Core, va: u64, ans: &mut u64, base: u64, ram: &[u8]) -> u64 {
+#[inline(always)]
+pub fn data_pa(core: &mut Core, va: u64, ans: &mut Report, base: u64, ram: &[u8]) -> u64 {
     match hint::served(core, va, 1, base, ram.len() as u64) {
         Some(pa) => {
-            *ans = pa;
+            *ans = Report { value: pa, reads: 0 };
             0
         }
         None => data_rest(core, va, ans, base, ram),
@@ -125,13 +129,20 @@ pub fn data_pa(core: &mut Core, va: u64, ans: &mut u64, base: u64, ram: &[u8]) -
 }
 
 #[inline(always)]
-fn address<P: Purpose>(core: &mut Core, va: u64, ans: &mut u64, base: u64, ram: &[u8]) -> u64 {
+fn address<P: Purpose>(core: &mut Core, va: u64, ans: &mut Report, base: u64, ram: &[u8]) -> u64 {
     rest::<P, true>(core, va, ans, base, ram)
 }
 
 /// By kind. Its arguments are those of the call in their order, so that it is jumped to.
 #[inline(always)]
-pub(crate) fn kind_asked(core: &mut Core, va: u64, kind: u64, ans: &mut u64, base: u64, ram: &[u8]) -> u64 {
+pub(crate) fn kind_asked(
+    core: &mut Core,
+    va: u64,
+    kind: u64,
+    ans: &mut Report,
+    base: u64,
+    ram: &[u8],
+) -> u64 {
     if kind < 2 {
         if kind == 1 {
             address::<Reading>(core, va, ans, base, ram)
@@ -149,10 +160,10 @@ pub(crate) fn kind_asked(core: &mut Core, va: u64, kind: u64, ans: &mut u64, bas
 
 /// The translation of va for an access of a kind: 1 read, 2 write, 4 fetch.
 #[inline]
-pub fn translate(core: &mut Core, va: u64, kind: u64, ans: &mut u64, base: u64, ram: &[u8]) -> u64 {
+pub fn translate(core: &mut Core, va: u64, kind: u64, ans: &mut Report, base: u64, ram: &[u8]) -> u64 {
     match hint::served(core, va, kind, base, ram.len() as u64) {
         Some(pa) => {
-            *ans = pa;
+            *ans = Report { value: pa, reads: 0 };
             0
         }
         None => kind_asked(core, va, kind, ans, base, ram),

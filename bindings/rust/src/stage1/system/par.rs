@@ -38,17 +38,19 @@ fn leaf_par(mair: u64, ns: bool, form: AtForm, leaf: Leaf) -> u64 {
     success_par(attr, leaf.oa, ns, leaf.desc >> 8 & 3)
 }
 
-/// PAR_EL1 after an AT of the form at `va`, stage 1 alone (DDI 0487, D17.2.113); `mair` is the regime's. It never uses
-/// or fills the cache.
+/// PAR_EL1 after an AT of the form at `va`, stage 1 alone (DDI 0487, D17.2.113), and the number of descriptors that its
+/// walk reads; `mair` is the regime's. It never uses or fills the cache.
 #[inline(always)]
-pub fn at(control: &Control, mair: u64, form: AtForm, va: u64, base: u64, ram: &[u8]) -> u64 {
+pub fn at(control: &Control, mair: u64, form: AtForm, va: u64, base: u64, ram: &[u8]) -> (u64, u8) {
     let regime = form.regime;
     let s = Bank::new(control, regime);
     // EL3 is always Secure
     let ns = regime != Regime::El3 && s.scr_el3 & SCR_NS != 0;
-    match s.fresh(regime, va, base, ram) {
+    let (fresh, reads) = s.fresh_with_reads(regime, va, base, ram);
+    let par = match fresh {
         Fresh::Ended(Ok(leaf)) => leaf_par(mair, ns, form, leaf),
         Fresh::Ended(Err(fsc)) => fault_par(fsc),
         Fresh::Flat(pa) => success_par(0, pa, ns, 0),
-    }
+    };
+    (par, reads)
 }

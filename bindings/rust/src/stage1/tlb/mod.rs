@@ -10,6 +10,7 @@ pub mod count;
 pub mod entry;
 pub mod hint;
 pub mod translate;
+pub mod work;
 
 const TLB_ENTRIES: usize = 1024;
 

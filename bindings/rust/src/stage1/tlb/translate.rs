@@ -7,6 +7,7 @@ use crate::stage1::tlb::Tlb;
 use crate::stage1::tlb::access::{self, Kind, Privilege, Request};
 use crate::stage1::tlb::entry::Entry;
 use crate::stage1::tlb::hint::{self, Hint};
+use crate::stage1::tlb::work::Work;
 
 impl Tlb {
     /// Where the data hint sends an access, if one serves.
@@ -51,16 +52,16 @@ impl Tlb {
     }
 
     /// A translation by a walk, whatever is at hand: where a walk is needed, the translation. A leaf becomes an entry
-    /// and is judged, a fault makes none. It leaves a hint, where one may serve.
+    /// and is judged, a fault makes none. It leaves a hint, where one may serve; what was read counts in `work`.
     #[inline(always)]
-    pub fn by_walk(&mut self, a: Request, base: u64, ram: &[u8]) -> Result<u64, Fault> {
+    pub fn by_walk(&mut self, a: Request, base: u64, ram: &[u8], work: &mut Work) -> Result<u64, Fault> {
         let regime = Regime::of_level(a.privilege.level);
         let va = a.bank.untag(regime, a.va);
         self.count_walk(a.privilege.level);
         let bank = a.bank;
-        let leaf = bank
-            .walk(regime, va, base, ram)
-            .map_err(crate::stage1::fault::first)?;
+        let walked = bank.walk(regime, va, base, ram);
+        work.add_reads(walked.reads);
+        let leaf = walked.end.map_err(crate::stage1::fault::first)?;
         let e = Entry::new(leaf, self.asid, access::tag_of(regime, va));
         self.put(e);
         let answer = e.judge(a.privilege.is_user(regime, a.kind), a.kind, a.va);

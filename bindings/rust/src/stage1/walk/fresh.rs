@@ -14,16 +14,24 @@ pub enum Fresh {
 }
 
 impl Bank {
-    /// The fresh answer of `va`, tag and all, in the regime, over the RAM that starts at `base`.
+    /// The fresh answer of `va`, tag and all, in the regime, over the RAM that starts at `base`; and how many descriptors
+    /// its walk read.
     #[inline(always)]
-    pub fn fresh(self, regime: Regime, va: u64, base: u64, ram: &[u8]) -> Fresh {
+    pub fn fresh_with_reads(self, regime: Regime, va: u64, base: u64, ram: &[u8]) -> (Fresh, u8) {
         if self.stage1_on(regime) {
-            Fresh::Ended(self.walk(regime, self.untag(regime, va), base, ram))
+            let walked = self.walk(regime, self.untag(regime, va), base, ram);
+            (Fresh::Ended(walked.end), walked.reads)
         } else {
             match self.flat(regime, va) {
-                Some(pa) => Fresh::Flat(pa),
-                None => Fresh::Ended(Err(FSC_ADDR_SIZE)),
+                Some(pa) => (Fresh::Flat(pa), 0),
+                None => (Fresh::Ended(Err(FSC_ADDR_SIZE)), 0),
             }
         }
+    }
+
+    /// The fresh answer alone.
+    #[inline(always)]
+    pub fn fresh(self, regime: Regime, va: u64, base: u64, ram: &[u8]) -> Fresh {
+        self.fresh_with_reads(regime, va, base, ram).0
     }
 }

@@ -50,6 +50,13 @@ pub struct Leaf {
 /// What a walk ends in: a leaf, or a fault status code.
 pub type Walked = Result<Leaf, u8>;
 
+/// A walk: its end, and how many descriptors it read.
+#[derive(Clone, Copy, Debug, PartialEq, Eq)]
+pub struct WalkResult {
+    pub end: Walked,
+    pub reads: u8,
+}
+
 /// What a level's descriptor leads to: the next level, or the walk's end.
 #[derive(Clone, Copy, Debug, PartialEq, Eq)]
 pub enum Step {

@@ -3,7 +3,7 @@
 
 use crate::stage1::sysreg::regs::Regime;
 use crate::stage1::walk::level;
-use crate::stage1::walk::level::{Params, Step, WalkState, Walked};
+use crate::stage1::walk::level::{Params, Step, WalkResult, WalkState};
 use crate::stage1::walk::regime::Bank;
 
 /// A table that a walk reads: where the walk stands, the address of the descriptor, and what that leads to.
@@ -40,17 +40,33 @@ fn visit_from(p: Params, first: WalkState, va: u64, base: u64, ram: &[u8], n: u8
 
 impl Bank {
     /// The table walk and permission check (DDI 0487, AArch64.TranslationTableWalk of ARMv8.0), over the RAM that
-    /// starts at `base`; `va` is already untagged and errors are fault status codes.
+    /// starts at `base`; `va` is already untagged and errors are fault status codes. Each descriptor that it reads counts,
+    /// one that lies outside RAM too.
     #[inline(always)]
-    pub fn walk(&self, regime: Regime, va: u64, base: u64, ram: &[u8]) -> Walked {
+    pub fn walk(&self, regime: Regime, va: u64, base: u64, ram: &[u8]) -> WalkResult {
         let g = self.range(regime, va);
         let p = self.params(regime, g);
-        let mut w = g.begin(p.outputsize, va)?;
+        let mut w = match g.begin(p.outputsize, va) {
+            Ok(first) => first,
+            Err(status) => {
+                return WalkResult {
+                    end: Err(status),
+                    reads: 0,
+                };
+            }
+        };
+        let mut reads: u8 = 0;
         'levels: loop {
+            reads += 1;
             match level::lookup(p, w, va, base, ram) {
                 Step::Next(next) => w = next,
-                Step::Leaf(leaf) => break Ok(leaf),
-                Step::Fault(status) => break Err(status),
+                Step::Leaf(leaf) => break WalkResult { end: Ok(leaf), reads },
+                Step::Fault(status) => {
+                    break WalkResult {
+                        end: Err(status),
+                        reads,
+                    };
+                }
             }
         }
     }

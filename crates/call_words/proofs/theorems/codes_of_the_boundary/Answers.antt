@@ -1,7 +1,7 @@
 use Rattle.std.specs.Prelude.{refl}
 use Rattle.call_words.specs.Ops.{data_abort_of, call_exception_of, exception_of, translate_call, call_of}
 use Rattle.call_words.specs.Replies.{words_by}
-use Rattle.call_words.specs.Walk.{walk_code}
+use Rattle.call_words.specs.Walk.{walk_code, walk_words}
 use Rattle.call_words.proofs.theorems.codes_of_the_boundary.Goals as goal
 
 pub returns-clause-calls : goal.returns-clause-calls
@@ -53,27 +53,29 @@ returns-clause-exceptions _ a b c = record {
 
 pub returns-clause-replies : goal.returns-clause-replies
 unfolding words_by
-returns-clause-replies _ a old = record {
-  done = record { by_number = refl; by_value = refl; by_words = refl };
-  value = record { by_number = refl; by_value = refl; by_words = refl };
-  faults = record { by_number = refl; by_value = refl; by_words = refl };
-  refused = record { by_number = refl; by_value = refl; by_words = refl };
-  undefined = record { by_number = refl; by_value = refl; by_words = refl };
-  unimplemented = record { by_number = refl; by_value = refl; by_words = refl };
-  fault = record { by_number = refl; by_value = refl; by_words = refl };
-  load = record { by_number = refl; by_value = refl; by_words = refl };
-  store = record { by_number = refl; by_value = refl; by_words = refl };
-  insn_abort = record { by_number = refl; by_value = refl; by_words = refl };
+returns-clause-replies _ a reads old = record {
+  done = record { by_number = refl; by_value = refl; by_reads = refl; by_words = refl; by_step = refl };
+  value = record { by_number = refl; by_value = refl; by_reads = refl; by_words = refl; by_step = refl };
+  faults = record { by_number = refl; by_value = refl; by_reads = refl; by_words = refl; by_step = refl };
+  refused = record { by_number = refl; by_value = refl; by_reads = refl; by_words = refl; by_step = refl };
+  undefined = record { by_number = refl; by_value = refl; by_reads = refl; by_words = refl; by_step = refl };
+  unimplemented = record { by_number = refl; by_value = refl; by_reads = refl; by_words = refl; by_step = refl };
+  fault = record { by_number = refl; by_value = refl; by_reads = refl; by_words = refl; by_step = refl };
+  load = record { by_number = refl; by_value = refl; by_reads = refl; by_words = refl; by_step = refl };
+  store = record { by_number = refl; by_value = refl; by_reads = refl; by_words = refl; by_step = refl };
+  insn_abort = record { by_number = refl; by_value = refl; by_reads = refl; by_words = refl; by_step = refl };
 }
 
 pub returns-clause-walks : goal.returns-clause-walks
-unfolding walk_code
+unfolding walk_code walk_words
 returns-clause-walks _ words va = record {
   el1 = refl;
   el2 = refl;
   el3 = refl;
   registers = refl;
   leaf = refl;
+  faulted = refl;
+  refused = λ out. refl;
   no_regime_0 = refl;
   no_regime_4 = refl;
   window = refl;

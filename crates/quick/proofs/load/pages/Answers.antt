@@ -11,4 +11,4 @@ use Rattle.quick.proofs.load.pages.Goals as goal
 pub returns-in-Some : goal.returns-in-Some
 returns-in-Some g c =
     let two = subst (λ (x : Width). OfTwo c.args.core.now c.args.base c.args.ram.now c.args.va (bytes_in x) (Some (c.in-Some.first, c.in-Some.v))) c.WIDTH.ensures c.in-Some.ensures in
-    tells _ _ (Value c.in-Some.v) _ _ _ (ap after_load two) refl refl
+    tells _ _ _ (Value c.in-Some.v) _ _ _ _ (ap after_load two.0) two.1 refl refl refl

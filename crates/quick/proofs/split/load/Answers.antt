@@ -1,5 +1,5 @@
 use Rattle.std.proofs.Common.{◌≡◌, ◌<◌, ◌^◌, ℕ, Bool, length, true, Some, sym, ap, ◌∙◌, arith}
-use Rattle.word.specs.Ram.{bytes_in}
+use Rattle.word.specs.Ram.{word_at, bytes_in}
 use Rattle.walk.specs.Regime.{stage1_on}
 use Rattle.sysreg.specs.Regs.{regime_of}
 use Rattle.tlb.specs.Translate.{hint_in}
@@ -9,6 +9,7 @@ use Rattle.cpu.specs.Place.{in_page, next_page, crosses}
 use Rattle.quick.specs.AtOnce.{both_at}
 use Rattle.quick.proofs.Both.{both-loads}
 use Rattle.quick.proofs.OnePage.{two-read}
+use Rattle.quick.proofs.Works.{two-read-none}
 use Rattle.quick.proofs.split.load.Goals as goal
 
 pub returns-in-Some-read_both : goal.returns-in-Some-read_both
@@ -24,4 +25,4 @@ returns-in-Some-read_both c =
     sym (ap (λ (m : ℕ). both_at c.args.base c.args.ram.now (record { in_page = m; pa = c.in-Some.pa; pa2 = c.in-Some-by_hint.pa2 }) (bytes_in c.args.width)) c.in_page-in_page.ensures.value)
     ∙ sym (ap (λ (n : ℕ). both_at c.args.base c.args.ram.now (record { in_page = c.in_page-in_page.result; pa = c.in-Some.pa; pa2 = c.in-Some-by_hint.pa2 }) n) c.bytes-in-Some-by_hint.ensures.value)
     ∙ sym c.read_both.ensures ∙ c.in-Some-read_both.is in
-    two-read _ _ _ _ _ _ _ _ k h h2 (both-loads _ _ _ _ long _ b)
+    (two-read _ _ _ _ _ _ _ _ k h h2 (both-loads _ _ _ _ long _ b), two-read-none c.args.core.now (word_at c.args.base c.args.ram.now 8) _ _ Read _ _ k h h2)

@@ -12,7 +12,7 @@ returns-then-write g c =
     let made = c.write.ensures.made ∙ ap (λ (x : Width). within c.args.base (length c.args.ram.now) (bytes_in x) c.in-Ok.pa) c.WIDTH.ensures in
     let after = c.write.ensures.after ∙ ap (λ (x : Width). stored c.args.base c.args.ram.now (bytes_in x) c.in-Ok.pa c.args.value) c.WIDTH.ensures in
     record {
-      tells = tells _ _ _ _ _ _ (ap after_store (end-made _ _ _ _ _ _ c.in-Ok.pa c.in-Ok.is _ made c.if-write.true)) refl refl;
+      tells = tells _ _ _ _ _ _ _ _ (ap after_store (end-made _ _ _ _ _ _ c.in-Ok.pa c.in-Ok.is _ made c.if-write.true)) refl refl refl refl;
       ram = put-whole c.args.core.now _ _ _ _ _ c.in-Ok.pa c.in-Ok.is _ _ after;
     }
 
@@ -21,13 +21,13 @@ returns-else-write g c =
     let made = c.write.ensures.made ∙ ap (λ (x : Width). within c.args.base (length c.args.ram.now) (bytes_in x) c.in-Ok.pa) c.WIDTH.ensures in
     let after = c.write.ensures.after ∙ ap (λ (x : Width). stored c.args.base c.args.ram.now (bytes_in x) c.in-Ok.pa c.args.value) c.WIDTH.ensures in
     record {
-      tells = tells _ _ _ _ _ _ (ap after_store (end-outside _ _ _ _ _ _ c.in-Ok.pa c.in-Ok.is _ made c.if-write.false c.ranges.va.fits)) refl refl;
+      tells = tells _ _ _ _ _ _ _ _ (ap after_store (end-outside _ _ _ _ _ _ c.in-Ok.pa c.in-Ok.is _ made c.if-write.false c.ranges.va.fits)) refl refl refl refl;
       ram = put-whole c.args.core.now _ _ _ _ _ c.in-Ok.pa c.in-Ok.is _ _ after;
     }
 
 pub returns-in-Err : goal.returns-in-Err
 returns-in-Err g c =
     record {
-      tells = tells _ _ _ _ _ _ (ap after_store (end-fault _ _ _ _ _ c.in-Err.fault _ c.in-Err.is)) refl refl;
+      tells = tells _ _ _ _ _ _ _ _ (ap after_store (end-fault _ _ _ _ _ c.in-Err.fault _ c.in-Err.is)) refl refl refl refl;
       ram = put-fault c.args.core.now _ _ _ _ c.in-Err.fault _ c.in-Err.is _;
     }

@@ -1,4 +1,4 @@
-use Rattle.transparency.proofs.Worked.{tidied-settled, by-cache, start-stale, start-unsettled, counted-by-level, claim-met, claim-unmet}
+use Rattle.transparency.proofs.Worked.{tidied-settled, by-cache, start-stale, start-unsettled, counted-by-level, claim-met, claim-unmet, worked-reads}
 use Rattle.transparency.proofs.theorems.worked_list.Goals as goal
 
 pub returns-clause-settled : goal.returns-clause-settled
@@ -21,3 +21,6 @@ returns-clause-met c = claim-met
 
 pub returns-clause-unmet : goal.returns-clause-unmet
 returns-clause-unmet c = claim-unmet
+
+pub returns-clause-reads : goal.returns-clause-reads
+returns-clause-reads c = worked-reads

@@ -1,0 +1,2 @@
+-- What the contracts of `reads_report` rest on.
+pub mod Laws

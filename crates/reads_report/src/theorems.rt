@@ -1,0 +1,19 @@
+//! What holds of the counting: each function computes nothing, and its contract is the theorem.
+ghost use Rattle.std.specs.Prelude.{◌≡◌, ℕ, ◌+◌, ◌%◌, ◌^◌, List, drop, take};
+ghost use Rattle.reads_report.specs.Counting.{Counts};
+ghost use Rattle.reads_report.specs.Rows.{descriptors_in, operations_in};
+ghost use Rattle.reads_report.specs.declared.pages.{Page.Page, Row.Row};
+
+/// An operation is counted once, with all that it read, and at its page alone; a page has one row.
+pub fn counting_of_operations()
+    ensures { (p : Page) (n : ℕ) (rows : List Row) → Counts p n rows }
+{}
+
+/// The first rows and the others are all.
+#[tactic(auto, using(crate::proofs::Laws::first_and_others))]
+pub fn sums_of_rows()
+    ensures operations { (rows : List Row) (n : ℕ)
+        → (operations_in (take n rows) + operations_in (drop n rows)) % 2 ^ 64 ≡ operations_in rows }
+    ensures descriptors { (rows : List Row) (n : ℕ)
+        → (descriptors_in (take n rows) + descriptors_in (drop n rows)) % 2 ^ 64 ≡ descriptors_in rows }
+{}

@@ -1,0 +1,188 @@
+-- How many descriptors a walk reads, by the levels at which it begins and ends.
+use Rattle.std.specs.Prelude.{if◌then◌else◌, ◌≡◌, Bool, not, ◌&&◌, ◌||◌, length, [], ◌∷◌, ltb, Option, Some, None, Ok, Err}
+use Rattle.std.proofs.Math.Path.{refl, subst, ap}
+use Rattle.std.proofs.Math.Bool.{true, false}
+use Rattle.std.proofs.Math.Dec.{eqb}
+use Prim.Native.Nat.{ℕ, zero, suc, ◌+◌, ◌-◌, ◌≤◌}
+use native.Mathlib.Omega.{arith}
+use Rattle.sysreg.specs.Regs.{single_priv}
+use Rattle.walk.specs.Regime.{wxn_of}
+use Rattle.walk.specs.Descriptor.{valid, table_or_page, af}
+use Rattle.walk.specs.Table.{Translation, Fault, Result, mapped, faults, translation, address_size, access_flag, external_abort, firstblocklevel, in_range, beyond}
+use Rattle.walk.specs.Table.{Lookup, Next, deeper, ends, startlevel, first_lookup, range_of, leaf_translation, leaf_result, level_next, table_next}
+use Rattle.walk.specs.Table.{descaddr, on_word, lookup_next, walk_from, walk_range, table_walk}
+use Rattle.walk.specs.Walk.{walked_of, walk_of}
+use Rattle.walk.specs.Fetches.{after_next, fetches_from, fetches_range, fetches_of}
+use Rattle.walk.specs.Order.{params_at, Reached, entry, onward}
+use Rattle.walk.specs.Counts.{reads, reads_to, SomeRead, EndsAt, OutsideCounts, LeafCounts}
+use Rattle.walk.specs.declared.{regime.Bank.Bank, range.Range.Range, level.Params.Params, level.Leaf.Leaf}
+use Rattle.walk.specs.Answers.{Walked}
+use Rattle.sysreg.specs.declared.regs.Regime.{Regime}
+use Rattle.walk.proofs.Order.{stage, one_down}
+use Rattle.walk.proofs.SizeLaws.{start-level}
+
+module _ (s : Bank) (r : Regime) (va : ℕ) (memory : ℕ → Option ℕ) where
+  -- what was read down to a table, and what is left from there
+  record Counted (l : Lookup) : Type 0 where
+    low : startlevel (range_of s r va) ≤ l.level
+    all : reads s r va memory
+        ≡ l.level - startlevel (range_of s r va) + length (fetches_from (4 - l.level) memory (params_at s r va) va l)
+
+  first-counted : in_range (range_of s r va) va ≡ true → (range_of s r va).disabled ≡ false
+      → beyond (params_at s r va).outputsize (range_of s r va).baseregister ≡ false → Counted (first_lookup (range_of s r va))
+  unfolding fetches_of fetches_range
+  first-counted e d b = record { low = omega arith; all = rw (e, b, d) (omega arith) }
+
+  next-counted : (l k : Lookup) → l.level ≤ 3 → Counted l → lookup_next memory (params_at s r va) va l ≡ deeper k → Counted k
+  unfolding fetches_from
+  next-counted l k h c e =
+      let d = one_down s r va memory l k h e in
+      let n : 4 - l.level ≡ suc (4 - k.level) = omega (arith, d.0, d.1) in
+      let z = rw (n, fetches_from, e) at c.all in
+      record { low = omega (arith, d.0, c.low); all = omega (arith, d.0, c.low, z) }
+
+  counted : {l : Lookup} → Reached s r va memory l → Counted l
+  counted (entry e d b) = first-counted e d b
+  counted (onward {l} {k} h e) = next-counted l k (stage s r va memory h).level (counted h) e
+
+  pub some-read : SomeRead s r va memory
+  unfolding fetches_from
+  some-read e d b =
+      let c = counted (entry e d b) in
+      let h = start-level (range_of s r va) in
+      let n : 4 - startlevel (range_of s r va) ≡ suc (3 - startlevel (range_of s r va)) = omega (arith, h) in
+      let z = rw (n, fetches_from) at c.all in
+      omega (arith, z)
+
+  pub ends-at : EndsAt s r va memory
+  unfolding fetches_from
+  ends-at l reached x e =
+      let c = counted reached in
+      let h = (stage s r va memory reached).level in
+      let n : 4 - l.level ≡ suc (3 - l.level) = omega (arith, h) in
+      let z = rw (n, fetches_from, e) at c.all in
+      omega (arith, c.low, z)
+
+  pub outside-counts : OutsideCounts s r va memory
+  unfolding lookup_next
+  outside-counts l reached none = ends-at l reached (faults (external_abort l.level)) (rw none)
+
+-- A LEAF is of the level at which the walk ends
+
+abbrev OfLevel : ℕ → Result → Type 0
+OfLevel n (mapped t) = t.level ≡ n
+OfLevel n (faults f) = Unit {0}
+
+abbrev EndsOn : ℕ → Next → Type 0
+EndsOn n (deeper k) = Unit {0}
+EndsOn n (ends x) = OfLevel n x
+
+module _ (p : Params) (va : ℕ) (l : Lookup) where
+  leaf-level : (desc : ℕ) → OfLevel l.level (leaf_result p va l desc)
+  unfolding leaf_result leaf_translation
+  leaf-level desc = go (ltb l.level (firstblocklevel p.largegrain)) (beyond p.outputsize desc) (af desc)
+    where
+      go : (a b c : Bool)
+          → OfLevel l.level
+          (if a then faults (translation l.level)
+          else if b then faults (address_size l.level)
+          else if c then mapped (leaf_translation p va l desc)
+          else faults (access_flag l.level))
+      go true b c = tt
+      go false true c = tt
+      go false false true = refl
+      go false false false = tt
+
+  table-level : (desc : ℕ) → EndsOn l.level (table_next p l desc)
+  unfolding table_next
+  table-level desc = go (beyond p.outputsize desc) _
+    where
+      go : (b : Bool) (k : Lookup) → EndsOn l.level (if b then ends (faults (address_size l.level)) else deeper k)
+      go true k = tt
+      go false k = tt
+
+  descriptor-level : (desc : ℕ) → EndsOn l.level (level_next p va l desc)
+  unfolding level_next
+  descriptor-level desc = go (not (valid desc) || (eqb l.level 3 && not (table_or_page desc))) (eqb l.level 3 || not (table_or_page desc))
+    where
+      go : (a b : Bool)
+          → EndsOn l.level
+          (if a then ends (faults (translation l.level)) else if b then ends (leaf_result p va l desc) else table_next p l desc)
+      go true b = tt
+      go false true = leaf-level desc
+      go false false = table-level desc
+
+  word-level : (word : Option ℕ) → EndsOn l.level (on_word word (level_next p va l) (ends (faults (external_abort l.level))))
+  word-level (Some desc) = descriptor-level desc
+  word-level None = tt
+
+  lookup-level : (memory : ℕ → Option ℕ) → EndsOn l.level (lookup_next memory p va l)
+  unfolding lookup_next
+  lookup-level memory = word-level (memory (descaddr p va l))
+
+fault-leaf : (f : Fault) (t : Translation) → faults f ≡ mapped t → ⊥
+fault-leaf f t e = let z : ◌≡◌ {A = ℕ} 0 1 = cc in omega arith
+
+module _ (s : Bank) (r : Regime) (va : ℕ) (memory : ℕ → Option ℕ) (t : Translation) where
+  abbrev p : Params
+  p = params_at s r va
+
+  record Found (n level : ℕ) : Type 0 where
+    below : level ≤ t.level
+    count : n ≡ t.level + 1 - level
+
+  found-from : (n : ℕ) (l : Lookup) → l.level + n ≡ 4 → walk_from n memory p va l ≡ mapped t
+      → Found (length (fetches_from n memory p va l)) l.level
+  unfolding walk_from fetches_from
+  found-from zero l h e = absurd (fault-leaf _ t e)
+  found-from (suc n) l h e = go (lookup_next memory p va l) refl (λ k q z. found-from n k q z)
+    where
+      ended : (x : Result) → x ≡ mapped t → OfLevel l.level x → t.level ≡ l.level
+      ended x q o = rw q at o
+
+      go : (y : Next) → lookup_next memory p va l ≡ y
+          → ((k : Lookup) → k.level + n ≡ 4 → walk_from n memory p va k ≡ mapped t → Found (length (fetches_from n memory p va k)) k.level)
+          → Found (length (descaddr p va l ∷ after_next (lookup_next memory p va l) (fetches_from n memory p va))) l.level
+      go (deeper k) q ih =
+          let d = one_down s r va memory l k (omega (arith, h)) q in
+          let f = ih k (omega (arith, h, d.0)) (rw q at e) in
+          rw q (record { below = omega (arith, f.below, d.0); count = omega (arith, f.below, f.count, d.0) })
+      go (ends x) q ih =
+          let o : OfLevel l.level x = subst (EndsOn l.level) q (lookup-level p va l memory) in
+          let same = ended x (rw q at e) o in
+          rw q (record { below = omega (arith, same); count = omega (arith, same) })
+
+  found-range : walk_range p (range_of s r va) va memory ≡ mapped t
+      → Found (length (fetches_range p (range_of s r va) va memory)) (startlevel (range_of s r va))
+  unfolding walk_range fetches_range
+  found-range = go (not (in_range (range_of s r va) va) || (range_of s r va).disabled) (beyond p.outputsize (range_of s r va).baseregister)
+    where
+      g : Range
+      g = range_of s r va
+
+      go : (a b : Bool)
+          → (if a then faults (translation 0) else if b then faults (address_size 0) else walk_from (4 - startlevel g) memory p va (first_lookup g)) ≡ mapped t
+          → Found (length (if a then [] else if b then [] else fetches_from (4 - startlevel g) memory p va (first_lookup g))) (startlevel g)
+      go true b e = absurd (fault-leaf _ t e)
+      go false true e = absurd (fault-leaf _ t e)
+      go false false e = found-from (4 - startlevel g) (first_lookup g) (omega (arith, start-level g)) e
+
+abbrev level_in : Walked → ℕ
+level_in (Ok leaf) = leaf.level
+level_in (Err n) = 0
+
+no-leaf : (n : ℕ) (leaf : Leaf) → ◌≡◌ {A = Walked} (Err n) (Ok leaf) → ⊥
+no-leaf n leaf e = let z : ◌≡◌ {A = ℕ} 0 1 = cc in omega arith
+
+leaf-of-result : (s : Bank) (r : Regime) (va : ℕ) (memory : ℕ → Option ℕ) (leaf : Leaf) (x : Result) → table_walk s r va memory ≡ x
+    → walked_of (single_priv r) (wxn_of s) x ≡ Ok leaf → reads s r va memory ≡ reads_to s r va memory leaf.level
+unfolding table_walk fetches_of
+leaf-of-result s r va memory leaf (mapped t) e q =
+    let f = found-range s r va memory t e in
+    let same : t.level ≡ leaf.level = ap (λ (w : Walked). level_in w) q in
+    omega (arith, f.count, same)
+leaf-of-result s r va memory leaf (faults f) e q = absurd (no-leaf _ leaf q)
+
+pub leaf-counts : (s : Bank) (r : Regime) (va : ℕ) (memory : ℕ → Option ℕ) → LeafCounts s r va memory
+unfolding walk_of
+leaf-counts s r va memory leaf e = leaf-of-result s r va memory leaf (table_walk s r va memory) refl e
