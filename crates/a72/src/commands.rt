@@ -1,7 +1,7 @@
 //! The commands.
 use crate::arguments::Arguments;
 use crate::stop::{Stop, Wrong};
-use crate::{arguments, usage};
+use crate::{arguments, ranges, usage};
 use census_report::report::{Census, Form};
 use core_calls::settings;
 use counters_report::report as counters;
@@ -234,6 +234,7 @@ pub fn carry_out<R: Files + Input + AllocGlobal, W: Write>(
         "reads" => reads(rt, out, arguments, rest),
         "walk" => walk(rt, out, arguments, rest),
         "census" => census(rt, out, arguments, rest, terminal),
+        "ranges" => ranges::carry_out(rt, out, arguments, rest),
         "chord" => chord(rt.alloc(), out, rest),
         "help" => {
             usage::help(out)?;

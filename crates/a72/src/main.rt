@@ -3,6 +3,7 @@
 //! census of pages, and the chord.
 mod arguments;
 mod commands;
+mod ranges;
 mod stop;
 mod usage;
 

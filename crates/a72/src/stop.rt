@@ -52,6 +52,9 @@ pub enum Stop {
     /// the core gave an answer that a walk now would not, as standard output says
     #[error("a stale answer")]
     Stale,
+    /// some of what was asked was not looked at, as standard output says
+    #[error("not all was looked at")]
+    Unfinished,
     #[error("the proved core lost a tone of the chord")]
     LostTone,
     /// standard output takes no more
@@ -138,7 +141,7 @@ pub fn show<W: Write>(out: &mut W, alloc: Global, words: &[String], stop: Stop) 
         }
         Stop::Trace(trouble) => report::show(out, alloc, word_at(words, 1), trouble),
         Stop::Output(error) => report::system(out, alloc, "write", error),
-        Stop::Stale => Ok(()),
+        Stop::Stale | Stop::Unfinished => Ok(()),
         _ => writeln!(out, "a72: {stop}"),
     }
 }

@@ -4,8 +4,8 @@ use std::io;
 use std::io::Write;
 use strsim::levenshtein;
 
-const COMMANDS: [&str; 8] = [
-    "run", "reads", "audit", "walk", "counters", "census", "chord", "help",
+const COMMANDS: [&str; 9] = [
+    "run", "reads", "audit", "walk", "counters", "census", "ranges", "chord", "help",
 ];
 
 // What each command does.
@@ -28,6 +28,8 @@ counters carries out a trace, then shows what the cache counted at each exceptio
          level walks and reads most.
 census   carries out a trace, then shows how the PAGES pages of 4 KiB from FIRST (both hexadecimal) end in a
          fresh walk at the core's level, or as named: a table, and a map; --svg: the map as a picture.
+ranges   carries out a trace, then shows what the tables map, from FIRST to LAST (hexadecimal) or of all addresses, at
+         the core's level, or as named: a row for each range of addresses that are mapped on and alike.
 chord    sixteen voices, a page each, and every order of a small chord: no tone is lost; against a stale
          cache, which loses one.
 
@@ -60,6 +62,7 @@ pub fn usage<W: Write>(out: &mut W) -> io::Result<()> {
     )?;
     writeln!(out, "       a72 counters TRACE")?;
     writeln!(out, "       a72 census TRACE FIRST PAGES [LEVEL] [--svg]")?;
+    writeln!(out, "       a72 ranges TRACE [FIRST LAST] [LEVEL]")?;
     writeln!(out, "       a72 chord")?;
     writeln!(
         out,

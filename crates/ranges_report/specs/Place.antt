@@ -1,9 +1,10 @@
 -- Where an address is mapped: by its walk, and by a list of ranges.
-use Rattle.std.specs.Prelude.{if◌then◌else◌, ◌≡◌, not, ◌||◌, nat_lt, ℕ, ◌+◌, ◌-◌, ◌≤◌, List, [], ◌∷◌, ◌++◌, Option, Some, None, Ok, Err}
+use Rattle.std.specs.Prelude.{if◌then◌else◌, ◌≡◌, not, ◌||◌, nat_lt, ℕ, ◌+◌, ◌-◌, ◌≤◌, ◌<◌, List, [], ◌∷◌, ◌++◌, Option, Some, None, Ok, Err}
 use Rattle.walk.specs.Descriptor.{attr_indx, ns, sh}
 use Rattle.walk.specs.Walk.{walk_of}
 use Rattle.walk.specs.Answers.{Walked}
-use Rattle.walk.specs.declared.{regime.Bank.Bank, level.Leaf.Leaf}
+use Rattle.walk.specs.declared.{regime.Bank.Bank, level.Leaf.Leaf, fresh.Fresh.Fresh}
+use Rattle.walk.specs.declared.fresh.Fresh.TheVariants.{Flat, Ended}
 use Rattle.sysreg.specs.declared.regs.Regime.{Regime}
 use Rattle.ranges_report.specs.declared.{map.Attributes.Attributes, map.Mapped.Mapped}
 
@@ -55,6 +56,23 @@ pub record Joins (m next : Mapped) : Type 0 where
 abbrev pub Added : List Mapped → Mapped → List Mapped → Type 0
 Added old next new = next.first ≤ next.last → (va : ℕ) → map_at new va ≡ map_at (old ++ next ∷ []) va
 
+-- the next, where there is one, begins past the end of this one and does not join it
+abbrev pub ApartFrom : Mapped → List Mapped → Type 0
+ApartFrom m [] = Unit {0}
+ApartFrom m (next ∷ l) = (m.last < next.first) × (Joins m next → ⊥)
+
+-- ranges that have addresses, one after another and as long as can be, all below an end
+unfoldable pub Ordered : ℕ → List Mapped → Type 0
+Ordered end [] = Unit {0}
+Ordered end (m ∷ l) = (m.first ≤ m.last) × (m.last < end) × ApartFrom m l × Ordered end l
+
 -- a list says where each address is mapped from one up to another and not at it, and nothing of any other address
 abbrev pub Maps : (ℕ → Option Place) → ℕ → ℕ → List Mapped → Type 0
 Maps place from end l = (va : ℕ) → map_at l va ≡ (if nat_lt va from || not (nat_lt va end) then None else place va)
+
+-- FRESH ANSWERS
+
+-- with stage 1 on
+abbrev pub fresh_place : Fresh → Option Place
+fresh_place (Ended w) = place_of w
+fresh_place (Flat pa) = None

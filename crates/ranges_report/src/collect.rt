@@ -1,7 +1,7 @@
 // The ranges of an address space, from one address to another.
 ghost use Rattle.std.specs.Prelude.{◌≡◌, ℕ, ◌+◌, ◌-◌, ◌/◌, ◌%◌, ◌^◌, ◌≤◌, ◌⊎◌, IfOk};
 ghost use Rattle.word.specs.Ram.{word_at};
-ghost use Rattle.ranges_report.specs.Place.{place_at, Maps};
+ghost use Rattle.ranges_report.specs.Place.{place_at, Maps, Ordered};
 
 use crate::map;
 use crate::map::Mapped;
@@ -33,6 +33,7 @@ fn step(
 ) -> Result<u64, AllocError>
     requires { at ≤ to }
     ensures bounds { IfOk result (λ last. (at ≤ last) × (last ≤ to)) }
+    ensures ordered { IfOk result (λ last. Ordered at ranges.old.items → Ordered (last + 1) ranges.new.items) }
     ensures page { IfOk result (λ last. (last ≡ to) ⊎ (last % 2 ^ 12 ≡ 2 ^ 12 - 1)) }
     ensures maps { IfOk result (λ last. (from : ℕ) → from ≤ at
         → Maps (place_at bank regime (word_at base ram.now 8)) from at ranges.old.items
@@ -59,6 +60,7 @@ pub fn collect(
 ) -> Result<Collected, AllocError>
     ensures maps { IfOk result (λ c. Maps (place_at bank regime (word_at base ram.now 8)) from (c.last + 1)
         c.ranges.items) }
+    ensures ordered { IfOk result (λ c. Ordered (c.last + 1) c.ranges.items) }
     ensures all { IfOk result (λ c. (c.last ≡ to) ⊎ (from / 2 ^ 12 + WALKS ≤ (c.last + 1) / 2 ^ 12)) }
 {
     let mut ranges = Vec::new(alloc);

@@ -3,4 +3,6 @@
 // are mapped alike.
 pub mod collect;
 pub mod map;
+pub mod report;
 pub mod stretch;
+pub mod theorems;

@@ -1,6 +1,6 @@
 // The ranges of a map.
-ghost use Rattle.std.specs.Prelude.{◌≡◌, ◌↔◌, IsTrue, IfOk};
-ghost use Rattle.ranges_report.specs.Place.{attributes_of, range_of, Joins, Added};
+ghost use Rattle.std.specs.Prelude.{◌≡◌, ◌+◌, ◌≤◌, ◌↔◌, IsTrue, IfOk};
+ghost use Rattle.ranges_report.specs.Place.{attributes_of, range_of, Joins, Added, Ordered};
 
 use std::alloc::AllocError;
 use walk::level::Leaf;
@@ -73,18 +73,22 @@ impl Mapped {
 
 // Adds a range at the end, to the one before where it joins it.
 pub(crate) fn add(ranges: &mut Vec<Mapped>, next: Mapped) -> Result<(), AllocError>
-    ensures { IfOk result (λ done. Added ranges.old.items next ranges.new.items) }
+    ensures maps { IfOk result (λ done. Added ranges.old.items next ranges.new.items) }
+    ensures ordered { IfOk result (λ done. next.first ≤ next.last → Ordered next.first ranges.old.items
+        → Ordered (next.last + 1) ranges.new.items) }
 {
-    if let Some(before) = ranges.pop() {
-        if before.joins(&next) {
-            ranges.push(Mapped {
-                last: next.last,
-                ..before
-            })?;
-            return Ok(());
-        }
-        ranges.push(before)?;
+    let Some(before) = ranges.pop() else {
+        ranges.push(next)?;
+        return Ok(());
+    };
+    if before.joins(&next) {
+        ranges.push(Mapped {
+            last: next.last,
+            ..before
+        })?;
+        return Ok(());
     }
+    ranges.push(before)?;
     ranges.push(next)?;
     Ok(())
 }
