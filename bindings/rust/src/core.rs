@@ -8,7 +8,7 @@ use crate::ram::Ram;
 use crate::registers::Key;
 use crate::stage1::call_words::reply::Report as Answer;
 use crate::stage1::cpu::call::Reply;
-use crate::stage1::quick::{fetch, hint, load, settings, store, sys, translation};
+use crate::stage1::quick::{hint, settings, sys, translation};
 use crate::stage1::{cpu, saved};
 use crate::system_operation::SystemOperation;
 use core::fmt::{self, Debug, Formatter};
@@ -77,7 +77,7 @@ impl Core {
 
     /// An operation is stopped. Of one that is refused no answer was written, and it read nothing.
     #[cold]
-    fn stop(&mut self, number: u64, access: Access, address: u64) -> Stop {
+    pub(crate) fn stop(&mut self, number: u64, access: Access, address: u64) -> Stop {
         if number < FAULT {
             self.answer.reads = 0;
         }
@@ -137,20 +137,22 @@ impl Core {
     /// Where a data read of `va` would go; `None` where it would fault.
     #[inline(always)]
     pub fn data_pa(&mut self, ram: &Ram, va: u64) -> Result<Option<u64>, Stop> {
-        match translation::data_pa(&mut self.core, va, &mut self.answer, ram.base, ram.bytes) {
-            DONE => Ok(Some(self.answer.value)),
-            FAULT.. => Ok(None),
-            n => Err(self.stop(n, Access::Read, va)),
+        let read = Access::Read as u64;
+        match hint::served(&self.core, va, read, ram.base, ram.bytes.len() as u64) {
+            Some(pa) => {
+                self.answer.reads = 0;
+                Ok(Some(pa))
+            }
+            None => self.data_pa_past_hint(ram, va),
         }
     }
 
-    /// Where an instruction fetch from `va` would go; `None` where it would fault.
-    #[inline(always)]
-    pub fn fetch_pa(&mut self, ram: &Ram, va: u64) -> Result<Option<u64>, Stop> {
-        match fetch::fetch_pa(&mut self.core, va, &mut self.answer, ram.base, ram.bytes) {
+    #[inline(never)]
+    fn data_pa_past_hint(&mut self, ram: &Ram, va: u64) -> Result<Option<u64>, Stop> {
+        match translation::data_rest(&mut self.core, va, &mut self.answer, ram.base, ram.bytes) {
             DONE => Ok(Some(self.answer.value)),
             FAULT.. => Ok(None),
-            n => Err(self.stop(n, Access::Fetch, va)),
+            n => Err(self.stop(n, Access::Read, va)),
         }
     }
 
@@ -164,10 +166,18 @@ impl Core {
     /// [`Self::load`] of a size in bytes, which is refused where it is none of 1, 2, 4 and 8.
     #[inline]
     pub fn load_bytes(&mut self, ram: &Ram, va: u64, size: u64) -> Result<u64, Stop> {
-        match load::load(&mut self.core, va, size, &mut self.answer, ram.base, ram.bytes) {
-            DONE => Ok(self.answer.value),
-            n => Err(self.stop(n, Access::Read, self.answer.value)),
+        if 4 < size {
+            if size == 8 {
+                return self.load_as::<u64>(ram, va);
+            }
+        } else if size == 4 {
+            return self.load_as::<u32>(ram, va);
+        } else if size == 2 {
+            return self.load_as::<u16>(ram, va);
+        } else if size == 1 {
+            return self.load_as::<u8>(ram, va);
         }
+        self.load_checked(ram, va, size)
     }
 
     /// Store the low bytes of a value at `va`. Both pages are translated before either is written. A fault's address is then
@@ -180,19 +190,18 @@ impl Core {
     /// [`Self::store`] of a size in bytes, which is refused where it is none of 1, 2, 4 and 8.
     #[inline]
     pub fn store_bytes(&mut self, ram: &mut Ram, va: u64, size: u64, value: u64) -> Result<(), Stop> {
-        match store::store(&mut self.core, va, size, value, &mut self.answer, ram.base, ram.bytes) {
-            DONE => Ok(()),
-            n => Err(self.stop(n, Access::Write, self.answer.value)),
+        if 4 < size {
+            if size == 8 {
+                return self.store_as::<u64>(ram, va, value);
+            }
+        } else if size == 4 {
+            return self.store_as::<u32>(ram, va, value);
+        } else if size == 2 {
+            return self.store_as::<u16>(ram, va, value);
+        } else if size == 1 {
+            return self.store_as::<u8>(ram, va, value);
         }
-    }
-
-    /// The instruction at `va`.
-    #[inline(always)]
-    pub fn fetch(&mut self, ram: &Ram, va: u64) -> Result<u32, Stop> {
-        match fetch::fetch(&mut self.core, va, &mut self.answer, ram.base, ram.bytes) {
-            DONE => Ok(self.answer.value as u32),
-            n => Err(self.stop(n, Access::Fetch, va)),
-        }
+        self.store_checked(ram, va, size, value)
     }
 
     /// Carry out a SYS instruction: TLBI, AT, DC ZVA; other cache maintenance does nothing.

@@ -73,6 +73,7 @@ extern crate alloc;
 
 mod answer;
 mod at_hand;
+mod at_once;
 #[cfg(feature = "alloc")]
 mod boxed;
 mod census;

@@ -38,7 +38,7 @@ fn read(
 }
 
 #[inline(always)]
-fn ended<const INSN: bool>(
+pub(crate) fn ended<const INSN: bool>(
     core: &mut Core,
     va: u64,
     answer: Result<u64, Fault>,
@@ -71,8 +71,14 @@ fn by_walk<const INSN: bool>(core: &mut Core, va: u64, ans: &mut Report, base: u
     ended::<INSN>(core, va, answer, work, ans, base, ram)
 }
 
-#[inline(never)]
-fn past_hint<const INSN: bool>(core: &mut Core, va: u64, ans: &mut Report, base: u64, ram: &[u8]) -> u64 {
+#[inline(always)]
+pub(crate) fn past_hint<const INSN: bool>(
+    core: &mut Core,
+    va: u64,
+    ans: &mut Report,
+    base: u64,
+    ram: &[u8],
+) -> u64 {
     match core.at_hand(base, ram, va, Kind::Fetch) {
         Some(answer) => {
             leave(core, va, answer);
@@ -93,7 +99,13 @@ fn by_hint<const INSN: bool>(core: &mut Core, va: u64, ans: &mut Report, base: u
 /// A level above 3, or a window that ends at 2^64 or past it: the checks by name.
 #[cold]
 #[inline(never)]
-fn checked<const INSN: bool>(core: &mut Core, va: u64, ans: &mut Report, base: u64, ram: &[u8]) -> u64 {
+pub(crate) fn checked<const INSN: bool>(
+    core: &mut Core,
+    va: u64,
+    ans: &mut Report,
+    base: u64,
+    ram: &[u8],
+) -> u64 {
     match check::with_ram(core.privilege.level, base, ram.len() as u64) {
         Ok(()) => by_hint::<INSN>(core, va, ans, base, ram),
         Err(missed) => missed.number() as u64,
@@ -112,13 +124,13 @@ fn asked<const INSN: bool>(core: &mut Core, va: u64, ans: &mut Report, base: u64
 }
 
 /// The instruction at va.
-#[inline(always)]
+#[inline]
 pub fn fetch(core: &mut Core, va: u64, ans: &mut Report, base: u64, ram: &[u8]) -> u64 {
     asked::<true>(core, va, ans, base, ram)
 }
 
 /// Where a fetch of va goes, by the same hint, which a new page refreshes.
-#[inline(always)]
+#[inline]
 pub fn fetch_pa(core: &mut Core, va: u64, ans: &mut Report, base: u64, ram: &[u8]) -> u64 {
     asked::<false>(core, va, ans, base, ram)
 }

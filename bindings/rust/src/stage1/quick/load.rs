@@ -24,7 +24,7 @@ fn own(core: &mut Core, va: u64, width: Width, ans: &mut Report, base: u64, ram:
 /// Any size, and a window that ends at 2^64 or past it: the checks by name.
 #[cold]
 #[inline(never)]
-fn checked(core: &mut Core, va: u64, size: u64, ans: &mut Report, base: u64, ram: &[u8]) -> u64 {
+pub(crate) fn checked(core: &mut Core, va: u64, size: u64, ans: &mut Report, base: u64, ram: &[u8]) -> u64 {
     match check::sized(core.privilege.level, base, ram.len() as u64, size) {
         Ok(width) => own(core, va, width, ans, base, ram),
         Err(missed) => missed.number() as u64,
@@ -32,8 +32,8 @@ fn checked(core: &mut Core, va: u64, size: u64, ans: &mut Report, base: u64, ram
 }
 
 /// Two pages: at once by both hints, or by the core's own load.
-#[inline(never)]
-fn pages<W: Datum>(core: &mut Core, va: u64, ans: &mut Report, base: u64, ram: &[u8]) -> u64 {
+#[inline(always)]
+pub(crate) fn pages<W: Datum>(core: &mut Core, va: u64, ans: &mut Report, base: u64, ram: &[u8]) -> u64 {
     if let Some((first, v)) = split::load(core, va, W::WIDTH, base, ram) {
         core.last_pa = first;
         *ans = Report { value: v, reads: 0 };
@@ -44,7 +44,7 @@ fn pages<W: Datum>(core: &mut Core, va: u64, ans: &mut Report, base: u64, ram: &
 
 /// The end of a load of one page, after its translation.
 #[inline(always)]
-fn ended<W: Datum>(
+pub(crate) fn ended<W: Datum>(
     core: &mut Core,
     va: u64,
     answer: Result<u64, Fault>,
@@ -84,8 +84,8 @@ fn by_walk<W: Datum>(core: &mut Core, va: u64, ans: &mut Report, base: u64, ram:
     ended::<W>(core, va, answer, work, ans, base, ram)
 }
 
-#[inline(never)]
-fn past_hint<W: Datum>(core: &mut Core, va: u64, ans: &mut Report, base: u64, ram: &[u8]) -> u64 {
+#[inline(always)]
+pub(crate) fn past_hint<W: Datum>(core: &mut Core, va: u64, ans: &mut Report, base: u64, ram: &[u8]) -> u64 {
     match core.at_hand(base, ram, va, Kind::Read) {
         Some(answer) => ended::<W>(core, va, answer, Work::none(), ans, base, ram),
         None => by_walk::<W>(core, va, ans, base, ram),
@@ -115,7 +115,7 @@ fn load_as<W: Datum>(core: &mut Core, va: u64, ans: &mut Report, base: u64, ram:
 }
 
 /// A load of 1, 2, 4 or 8 bytes. The tests come in this order for the sake of the commonest size.
-#[inline(always)]
+#[inline]
 pub fn load(core: &mut Core, va: u64, size: u64, ans: &mut Report, base: u64, ram: &[u8]) -> u64 {
     if 4 < size {
         if size == 8 {

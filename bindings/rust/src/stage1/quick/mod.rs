@@ -4,7 +4,7 @@
 mod at_once;
 pub mod fetch;
 pub(crate) mod hint;
-mod instance;
+pub(crate) mod instance;
 pub mod load;
 pub mod settings;
 mod split;

@@ -31,7 +31,7 @@ fn own(
 /// Any size, and a window that ends at 2^64 or past it: the checks by name.
 #[cold]
 #[inline(never)]
-fn checked(
+pub(crate) fn checked(
     core: &mut Core,
     va: u64,
     size: u64,
@@ -47,8 +47,15 @@ fn checked(
 }
 
 /// Two pages: at once by both hints, or by the core's own store.
-#[inline(never)]
-fn pages<W: Datum>(core: &mut Core, va: u64, value: u64, ans: &mut Report, base: u64, ram: &mut [u8]) -> u64 {
+#[inline(always)]
+pub(crate) fn pages<W: Datum>(
+    core: &mut Core,
+    va: u64,
+    value: u64,
+    ans: &mut Report,
+    base: u64,
+    ram: &mut [u8],
+) -> u64 {
     if split::store(core, va, W::WIDTH, value, base, ram) {
         ans.reads = 0;
         return 0;
@@ -58,7 +65,7 @@ fn pages<W: Datum>(core: &mut Core, va: u64, value: u64, ans: &mut Report, base:
 
 /// The end of a store of one page, after its translation.
 #[inline(always)]
-fn ended<W: Datum>(
+pub(crate) fn ended<W: Datum>(
     core: &mut Core,
     va: u64,
     answer: Result<u64, Fault>,
@@ -101,8 +108,8 @@ fn by_walk<W: Datum>(
     ended::<W>(core, va, answer, work, value, ans, base, ram)
 }
 
-#[inline(never)]
-fn past_hint<W: Datum>(
+#[inline(always)]
+pub(crate) fn past_hint<W: Datum>(
     core: &mut Core,
     va: u64,
     value: u64,
@@ -153,7 +160,7 @@ fn store_as<W: Datum>(
 }
 
 /// A store of the low 1, 2, 4 or 8 bytes of a value. The tests come in this order for the sake of the commonest size.
-#[inline(always)]
+#[inline]
 pub fn store(
     core: &mut Core,
     va: u64,

@@ -111,13 +111,13 @@ fn rest<P: Purpose, const TELLS: bool>(
     }
 }
 
-#[inline(never)]
-fn data_rest(core: &mut Core, va: u64, ans: &mut Report, base: u64, ram: &[u8]) -> u64 {
+#[inline(always)]
+pub(crate) fn data_rest(core: &mut Core, va: u64, ans: &mut Report, base: u64, ram: &[u8]) -> u64 {
     rest::<Reading, false>(core, va, ans, base, ram)
 }
 
 /// Where a data read of va goes.
-#[inline(always)]
+#[inline]
 pub fn data_pa(core: &mut Core, va: u64, ans: &mut Report, base: u64, ram: &[u8]) -> u64 {
     match hint::served(core, va, 1, base, ram.len() as u64) {
         Some(pa) => {
