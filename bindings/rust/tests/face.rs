@@ -313,7 +313,10 @@ fn what_is_at_hand_reads_nothing() {
     core.translate(&ram, 0x1000, Access::Read).unwrap();
     core.data_pa(&ram, 0x2000).unwrap();
     assert_eq!(core.report().reads, 3);
-    assert_eq!(core.translate_at_hand(0x1000, Access::Read), Some(Ok(BASE + 0x8000)));
+    assert_eq!(
+        core.translate_at_hand(0x1000, Access::Read),
+        Some(Ok(BASE + 0x8000))
+    );
     assert_eq!(core.report().reads, 0);
     core.data_pa(&ram, 0x5000).unwrap();
     assert_eq!(core.translate_at_hand(0x3000, Access::Read), None);
