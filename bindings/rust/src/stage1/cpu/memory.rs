@@ -1,5 +1,5 @@
 // Written by tools/plain from crates/cpu/src/memory.rt: change that.
-//! The core's operations on memory.
+//! The core's operations on memory. The descriptors that an operation reads are added to its `work`.
 
 use crate::stage1::cpu::place::{FaultAt, Outside, Pages, Place};
 use crate::stage1::cpu::{Core, bytes, place};

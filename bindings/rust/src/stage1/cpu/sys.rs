@@ -1,5 +1,5 @@
 // Written by tools/plain from crates/cpu/src/sys.rt: change that.
-//! System operations on the core.
+//! System operations on the core. The descriptors that one reads are added to its `work`.
 
 use crate::stage1::cpu::Core;
 use crate::stage1::exception::kind::{Exception, Stop};
