@@ -302,3 +302,25 @@ fn a_core_is_send_and_sync() {
     fn shared<T: Send + Sync>() {}
     shared::<Core>();
 }
+
+/// What is at hand reads no descriptor, whatever the operation before it read; where nothing is, that one's report stays.
+#[test]
+fn what_is_at_hand_reads_nothing() {
+    let mut bytes = bytes();
+    let ram = Ram::new(BASE, &mut bytes);
+    let mut core = core();
+    core.fetch(&ram, 0x1000).unwrap();
+    core.translate(&ram, 0x1000, Access::Read).unwrap();
+    core.data_pa(&ram, 0x2000).unwrap();
+    assert_eq!(core.report().reads, 3);
+    assert_eq!(
+        core.translate_at_hand(0x1000, Access::Read),
+        Some(Ok(BASE + 0x8000))
+    );
+    assert_eq!(core.report().reads, 0);
+    core.data_pa(&ram, 0x5000).unwrap();
+    assert_eq!(core.translate_at_hand(0x3000, Access::Read), None);
+    assert_eq!(core.report().reads, 3);
+    assert_eq!(core.fetch_at_hand(0x1008), Some(Ok(BASE + 0x8008)));
+    assert_eq!(core.report().reads, 0);
+}

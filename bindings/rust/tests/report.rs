@@ -35,6 +35,9 @@ fn a_walk_reads_and_what_is_cached_does_not() {
     assert_eq!(reads(&core), 0);
     core.data_pa(&ram, 0x2000).unwrap();
     assert_eq!(reads(&core), 3);
+    core.translate(&ram, 0x5000, Access::Write).unwrap();
+    core.data_pa(&ram, 0x2000).unwrap();
+    assert_eq!(reads(&core), 0);
     core.set_level(Level::EL0).unwrap();
     assert!(core.translate(&ram, 0x2000, Access::Read).is_err());
     assert_eq!(reads(&core), 0);
