@@ -548,5 +548,7 @@ same "$work/odd" 'flags, statuses and immediates at their ends'
 : >"$work/empty"
 "$tool" run "$work/empty" >"$work/out" 2>&1 && [ ! -s "$work/out" ] && pass || fail 'an empty trace'
 
+tests/ranges.sh && pass || fail 'tests/ranges.sh'
+
 echo "$good as expected, $bad otherwise"
 [ "$bad" -eq 0 ]

@@ -51,7 +51,15 @@ pub(crate) fn carry_out<R: Files + Input + AllocGlobal, W: Write>(
         return Err(Stop::Census(Refused::Level));
     }
     let ram = machine.ram.as_slice();
-    let all = report::show(out, rt.alloc(), &machine.core, machine.base, ram, first, last)?;
+    let all = report::show(
+        out,
+        rt.alloc(),
+        &machine.core,
+        machine.base,
+        ram,
+        first,
+        last,
+    )?;
     if all {
         return Ok(());
     }

@@ -117,16 +117,12 @@ pub fn show<W: Write>(
     let count = found.ranges.len();
     let word = if count == 1 { "range" } else { "ranges" };
     writeln!(out, "{count} {word}, {} pages of 4 KiB", bytes >> 12)?;
-    legend(
-        out,
-        found.ranges.as_slice(),
-        core.sys.mair[regime.index()],
-    )?;
+    legend(out, found.ranges.as_slice(), core.sys.mair[regime.index()])?;
     if found.last < to {
         let next = found.last.wrapping_add(1);
         writeln!(
             out,
-            "stopped after {:x} walks: what {next:016x} and the addresses above map is not shown",
+            "stopped after {:x} walks: from {next:016x} on nothing was looked at",
             collect::WALKS
         )?;
     }

@@ -42,7 +42,7 @@ fn sums<W: Write>(out: &mut W, what: &str, sums: Sums, all: u64) -> io::Result<(
         operations,
         descriptors,
     } = sums;
-    write!(out, "  {what:<7}{pages:>10} pages       ")?;
+    write!(out, "  {what:<7}{pages:>10} pages      ")?;
     counts(out, operations, descriptors, all)
 }
 

@@ -4,7 +4,7 @@ ghost use Rattle.reads_report.specs.Counting.{Counts};
 ghost use Rattle.reads_report.specs.Rows.{descriptors_in, operations_in};
 ghost use Rattle.reads_report.specs.declared.pages.{Page.Page, Row.Row};
 
-/// An operation is counted once, with all that it read, and at its page alone; a page has one row.
+/// An operation is counted once, with all that it read, at its page and its level alone.
 pub fn counting_of_operations()
     ensures { (p : Page) (n : ℕ) (rows : List Row) → Counts p n rows }
 {}

@@ -1,5 +1,5 @@
-//! Two cores side by side, the Rust and another: answer, descriptors read, whole state and RAM after every operation. What leaves the
-//! Rust's domain goes as [`domain`] has it.
+//! Two cores side by side, the Rust and another: answer, descriptors read, whole state and RAM after every operation.
+//! What leaves the Rust's domain goes as [`domain`] has it.
 use crate::domain::{self, Judge};
 use crate::op::{Ans, Line, Op};
 use crate::rust::RustCore;

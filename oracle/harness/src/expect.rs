@@ -1,6 +1,6 @@
 //! Expectations in a trace: after `#=` on an operation's line stands its answer, then after `;` values of the state
-//! by the names of [`crate::State::line`] and [`crate::state::REGS`], `rd` the descriptors read, then after `--` the reason. Answer or values may be
-//! left out.
+//! by the names of [`crate::State::line`] and [`crate::state::REGS`], and `rd`, the descriptors read; then after `--` the
+//! reason. Answer or values may be left out.
 use crate::op::{Ans, Line};
 use crate::{feed, Core, Ram};
 

@@ -3,8 +3,9 @@
 //! of that page that the core really made, that no later invalidation covers, and that is global or of the ASID in
 //! force now, differs from the walk now, the two answers are equal. (The scope lets every walk the page would have
 //! had excuse a difference, so it asks less.) A census is a step that does nothing, and its counts are those of the
-//! core without a cache. A translation that walks reads the descriptors of the walk now, any other none; an operation reads
-//! what its translations do, and AT what a walk does, whatever the cache holds. After each step [`invariant`] is checked too.
+//! core without a cache. A translation that walks reads the descriptors of the walk now, any other none; an operation
+//! reads what its translations do, and AT what a walk does, whatever the cache holds. After each step [`invariant`] is
+//! checked too.
 mod invariant;
 mod past;
 

@@ -136,17 +136,19 @@ impl Ram {
         }
     }
 
-    /// Of the base, the length, and the bytes as little-endian words, the last one filled up with zeroes.
+    /// Of the base, the length, and the digests of four lanes of the bytes as little-endian words: each lane has every
+    /// fourth word, and past the last byte all are zero.
     pub fn digest(&self) -> u64 {
-        let mut h = Hash::new();
-        h.word(self.base);
-        h.word(self.bytes.len() as u64);
-        for c in self.bytes.chunks(8) {
-            let mut b = [0; 8];
-            b[..c.len()].copy_from_slice(c);
-            h.word(u64::from_le_bytes(b));
+        let mut lanes = [(); 4].map(|()| Hash::new());
+        for group in self.bytes.chunks(32) {
+            let mut padded = [0; 32];
+            padded[..group.len()].copy_from_slice(group);
+            for (lane, word) in lanes.iter_mut().zip(padded.chunks_exact(8)) {
+                lane.word(u64::from_le_bytes(word.try_into().expect("eight bytes")));
+            }
         }
-        h.0
+        let head = [self.base, self.bytes.len() as u64];
+        Hash::of(head.into_iter().chain(lanes.map(|lane| lane.0)))
     }
 }
 

@@ -4,10 +4,10 @@ use harness::{feed, Line, Ram};
 use std::io::Write;
 
 const USAGE: &str = "run TRACE [--full] [--right | --model | --c | --each]
-  A line for each operation: its line number, the operation, the answer, the descriptors that it read, the state after it. --full: the whole state
-  too, and every count of a census that is not 0. On the Rust; --right: on the Rust in its domain and on what
-  stands in its place outside it; --model: on the model; --c: on the core behind the C boundary (--each: by its function for each
-  operation).";
+  A line for each operation: its line number, the operation, the answer, the descriptors that it read (rd), the state
+  after it. --full: the whole state too, and every count of a census that is not 0. On the Rust; --right: on the Rust
+  in its domain and on what stands in its place outside it; --model: on the model; --c: on the core behind the C
+  boundary (--each: by its function for each operation).";
 
 /// Whether a line may change RAM: its digest is the dear part.
 fn moves_ram(line: &Line) -> bool {

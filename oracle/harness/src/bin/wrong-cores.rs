@@ -8,8 +8,9 @@ use harness::{feed, Ans, Core, Line, Ram, State};
 
 const USAGE: &str = "wrong-cores SEED N
   Runs each of the model's mistakes beside the Rust (outside the Rust's domain beside what stands in its place) on
-  strict traces from SEED on, for at most about N operations, and says after how many operations the state told them apart, and when the answers, descriptors read, counters,
-  registers or RAM alone did. Status 1 where one is not caught by the latter.";
+  strict traces from SEED on, for at most about N operations, and says after how many operations the state told them
+  apart, and when the answers, descriptors read, counters, registers or RAM alone did. Status 1 where one is not caught
+  by the latter.";
 
 /// What the scope compares: no hints and no entries.
 fn shown(s: &State) -> impl PartialEq {

@@ -1,8 +1,8 @@
 //! The library's function for each operation, with the feature `rattle`.
 //!
-//! Each gives one of the numbers in [`crate::number`]. An [`Answer`] takes the value, or the address of a data abort, and
-//! the descriptors read. Without a value or an address that word stays as it was, and of a call that is refused, undefined or
-//! unimplemented the whole answer.
+//! Each gives one of the numbers in [`crate::number`]. An [`Answer`] takes the value, or the address of a data abort,
+//! and the descriptors read. Without a value or an address that word stays as it was, and of a call that is refused,
+//! undefined or unimplemented the whole answer.
 use super::{census, exception, Held, UNWRITTEN};
 use crate::library::*;
 use crate::number::{status, DONE, LAST_CHECK, UNDEFINED, UNIMPLEMENTED};
