@@ -148,12 +148,15 @@ pub(crate) fn lookup(p: Params, w: WalkState, va: u64, base: u64, ram: &[u8]) ->
         Some(word) => Descriptor(word),
         None => return Step::Fault(FSC_WALK_EXTERNAL | w.level),
     };
-    let table = desc.table_or_page();
-    if !desc.valid() || (w.level == 3 && !table) {
-        Step::Fault(FSC_TRANSLATION | w.level)
-    } else if w.level < 3 && table {
-        table_step(p, w, desc)
-    } else {
-        leaf_step(p, w, va, desc)
+    if !desc.valid() {
+        return Step::Fault(FSC_TRANSLATION | w.level);
     }
+    if desc.table_or_page() {
+        if w.level < 3 {
+            return table_step(p, w, desc);
+        }
+    } else if w.level == 3 {
+        return Step::Fault(FSC_TRANSLATION | w.level);
+    }
+    leaf_step(p, w, va, desc)
 }
