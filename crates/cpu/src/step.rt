@@ -18,7 +18,9 @@ impl Core {
         ensures work { work.new ≡ run_work self.old base ram.old call work.old }
     {
         match call {
-            Call::Translate(kind, va) => Reply::translated(va, self.translate(base, ram, va, kind, work)),
+            Call::Translate(kind, va) => {
+                Reply::translated(va, self.translate(base, ram, va, kind, work))
+            }
             Call::DataPa(va) => Reply::reached(self.data_pa(base, ram, va, work)),
             Call::FetchPa(va) => Reply::reached(self.fetch_pa(base, ram, va, work)),
             Call::Load(va, size) => match Width::of_size(size) {
