@@ -1,6 +1,6 @@
 -- How many descriptors a call reads.
 use Rattle.std.specs.Prelude.{◌≡◌, ℕ, zero, suc, ◌≤◌, true, false, List, Option, Some, None}
-use Rattle.std.proofs.Common.{refl, le_trans, arith}
+use Rattle.std.proofs.Common.{refl, ◌∙◌, le_trans, arith}
 use Rattle.word.specs.Bits.{align_down}
 use Rattle.word.specs.Ram.{word_at, width_of, bytes_in}
 use Rattle.word.specs.declared.ram.Width.{Width}
@@ -19,7 +19,7 @@ use Rattle.cpu.specs.declared.Core.{Core}
 use Rattle.cpu.specs.declared.call.Call.{Call}
 use Rattle.cpu.specs.declared.call.Call.TheVariants.{Translate, DataPa, FetchPa, Load as LoadCall, Store as StoreCall, Fetch, System}
 use Rattle.cpu.specs.declared.call.Call.TheVariants.{Register, Level, Mark, General, Abort, Census}
-use Rattle.cpu.proofs.ReadLaws.{fresh-few, more-few, translation-few, fetch-few, eight-reads, zeroing-few, first-store-few}
+use Rattle.cpu.proofs.ReadLaws.{fresh-few, fresh-none, more-few, translation-few, fetch-few, eight-reads, zeroing-few, zeroing-four}
 
 module _ (c : Core) (base : ℕ) (ram : List ℕ) where
   pub at-few : (form : AtForm) (va : ℕ) → (at_work c (word_at base ram 8) form va no_work).reads ≤ 4
@@ -73,7 +73,7 @@ module _ (c : Core) (base : ℕ) (ram : List ℕ) where
 pub calls-read-few : CallsReadFew
 calls-read-few c base ram call = (
   step-few c base ram 32 (omega arith) (λ rt. zeroing-few c base ram (reg_of c rt)) call,
-  λ well small. step-few c base ram 8 (omega arith) (λ rt. first-store-few c base ram (reg_of c rt) well (small rt)) call,
+  λ well small. step-few c base ram 8 (omega arith) (λ rt. le_trans (zeroing-four c base ram (reg_of c rt) well (small rt)) (omega arith)) call,
 )
 
 -- what reads nothing
@@ -123,4 +123,4 @@ at-reads c base ram e form m o =
     let few = fresh-few (bank_of c.control form.regime) form.regime (reg_of c e.rt) (word_at base ram 8) in
     let same : (step_work c base ram (System e) no_work).reads ≡ fresh_reads (bank_of c.control form.regime) form.regime (reg_of c e.rt) (word_at base ram 8)
     = rw (m, o) (omega arith) in
-    (same, omega (arith, same, few))
+    (same, omega (arith, same, few), λ off. same ∙ fresh-none (bank_of c.control form.regime) form.regime (reg_of c e.rt) (word_at base ram 8) off)

@@ -25,13 +25,14 @@ use Rattle.cpu.specs.Registers.{set_mark}
 use Rattle.cpu.specs.Check.{missed_of}
 use Rattle.cpu.specs.Step.{run_of, step_of}
 use Rattle.cpu.specs.Work.{translate_work, fetch_work, access_work, zero_work, at_work, sys_work, run_work, step_work}
-use Rattle.cpu.specs.Cases.{at}
+use Rattle.cpu.specs.Cases.{at, off}
 use Rattle.cpu.specs.ReadCases.{ReadCases, WorkedReads, ReadsOfCalls, deep}
 
 pub read-cases : ReadCases
-unfolding at step_work run_work translate_work sys_work at_work fresh_reads fetches_of fetches_range fetches_from needs_walk missed_of fresh_sys reg_of named
-    decode_of blanks no_hints place_of get_of lookup_next level_next table_next leaf_result leaf_translation leaf_permissions descaddr range_of params_of
-    pa_size untagged word_at little_endian bytes_of
+unfolding at step_work run_work translate_work access_work sys_work at_work fresh_reads fetches_of fetches_range fetches_from needs_walk missed_of step_of
+    run_of translate_of stepped_now translation_of set_mark fresh_sys reg_of after_access named decode_of judged blanks no_hints no_tallies place_of get_of
+    put_of miss_in walked_in walk_of table_walk walk_range walk_from lookup_next level_next table_next leaf_result leaf_translation leaf_permissions descaddr
+    range_of params_of pa_size untagged word_at little_endian bytes_of
 read-cases = refl
 
 pub worked-reads : WorkedReads
@@ -42,7 +43,7 @@ unfolding deep at step_work run_work translate_work access_work fetches_of fetch
 worked-reads = refl
 
 pub reads-of-calls : ReadsOfCalls
-unfolding deep at step_work run_work translate_work fetch_work access_work zero_work sys_work at_work fresh_reads fetches_of fetches_range fetches_from
+unfolding deep off at step_work run_work translate_work fetch_work access_work zero_work sys_work at_work fresh_reads fetches_of fetches_range fetches_from
     needs_walk missed_of step_of run_of translate_of stepped_now translation_of located_now located_of write_of ram_after_write store_end store_ram_end
     verdict_of store_ram stored fresh_sys reg_of after_access named decode_of judged blanks no_hints no_tallies place_of get_of put_of miss_in walked_in
     walk_of table_walk walk_range walk_from lookup_next level_next table_next leaf_result leaf_translation leaf_permissions descaddr range_of params_of

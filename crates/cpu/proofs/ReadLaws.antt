@@ -33,7 +33,7 @@ use Rattle.cpu.specs.Core.{bank_now}
 use Rattle.cpu.specs.Memory.{write_of, ram_after_write}
 use Rattle.cpu.specs.OpLaws.{on_now, store as storing}
 use Rattle.cpu.specs.Place.{next_page, crosses}
-use Rattle.cpu.specs.Reads.{sum_read, SumsReads, FewReads, ZeroingFew, ZeroingByFirst}
+use Rattle.cpu.specs.Reads.{sum_read, SumsReads, FewReads, ZeroingFew, ZeroingByFirst, ZeroingFour}
 use Rattle.cpu.specs.System.{on_stored}
 use Rattle.cpu.specs.Work.{translate_work, fetch_work, access_work, write_work, zero_work}
 use Rattle.cpu.specs.declared.Core.{Core}
@@ -58,6 +58,11 @@ fresh-few s r va memory = go (stage1_on s r)
     go : (b : Bool) → (if b then length (fetches_of s r (untagged s.tcr r va) memory) else 0) ≤ 4
     go true = walk-few s r (untagged s.tcr r va) memory
     go false = omega arith
+
+-- and with stage 1 off none
+pub fresh-none : (s : Bank) (r : Regime) (va : ℕ) (memory : ℕ → Option ℕ) → stage1_on s r ≡ false → fresh_reads s r va memory ≡ 0
+unfolding fresh_reads
+fresh-none s r va memory e = rw e
 
 pub access-few : (s : Bank) (privilege : Privilege) (memory : ℕ → Option ℕ) (kind : Kind) (va : ℕ) → (access_at s privilege memory kind va).reads ≤ 4
 access-few s privilege memory kind va = walk-few _ _ _ memory
@@ -260,7 +265,8 @@ module _ (c : Core) (base : ℕ) (ram : List ℕ) (va : ℕ) (w : Work) (well : 
       even = omega arith
 
       go : (y : StoreAnswer) → (write_of c base ram va 8).answer ≡ y
-          → on_stored y (zero_work 7 (write_of c base ram va 8).core base (ram_after_write c base ram va 8 0) (wrap (va + 8)) first_store) first_store ≡ first_store
+          → on_stored y (zero_work 7 (write_of c base ram va 8).core base (ram_after_write c base ram va 8 0) (wrap (va + 8)) first_store) first_store
+          ≡ first_store
       go (Err s) e = refl
       go (Ok y) e =
           let d = one-done c base ram va even e in
@@ -271,8 +277,6 @@ module _ (c : Core) (base : ℕ) (ram : List ℕ) (va : ℕ) (w : Work) (well : 
 pub zeroing-by-first : ZeroingByFirst
 zeroing-by-first c base ram x w well small = by-first c base ram (align_down x 6) w well (omega arith) (omega arith)
 
-pub first-store-few : (c : Core) (base : ℕ) (ram : List ℕ) (x : ℕ) → WellFormed c.tlb → x < 2 ^ 64
-    → (zero_work 8 c base ram (align_down x 6) no_work).reads ≤ 8
-first-store-few c base ram x well small =
-    let few = store-few base c ram (align_down x 6) no_work (omega arith) in
-    rw (zeroing-by-first c base ram x no_work well small) (omega arith)
+pub zeroing-four : ZeroingFour
+zeroing-four c base ram x well small =
+    rw (zeroing-by-first c base ram x no_work well small) (store-few base c ram (align_down x 6) no_work (omega arith))

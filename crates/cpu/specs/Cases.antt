@@ -135,7 +135,7 @@ proved-cases = refl
 -- WITH STAGE 1 OFF, in the regime of each level
 
 -- a core at a level, TCR_ELx of each regime as given, stage 1 off, the address in X0
-pub off : ℕ → ℕ → ℕ → Core
+unfoldable pub off : ℕ → ℕ → ℕ → Core
 unfolding at
 off level tcr x0 =
     record (at level 0) {

@@ -7,7 +7,7 @@ use Rattle.exception.specs.Abort.{data_abort_at}
 use Rattle.tlb.specs.Work.{no_work}
 use Rattle.tlb.specs.declared.access.Kind.{Kind}
 use Rattle.tlb.specs.declared.access.Kind.TheVariants.{Read, Fetch}
-use Rattle.cpu.specs.Cases.{at}
+use Rattle.cpu.specs.Cases.{at, off}
 use Rattle.cpu.specs.Step.{step_of}
 use Rattle.cpu.specs.Work.{step_work}
 use Rattle.cpu.specs.declared.Core.{Core}
@@ -17,6 +17,9 @@ use Rattle.cpu.specs.declared.call.Call.TheVariants.{Translate, DataPa, FetchPa,
 -- what a call reads
 abbrev pub reads : Core → ℕ → List ℕ → Call → ℕ
 reads c base ram call = (step_work c base ram call no_work).reads
+
+abbrev after : Core → ℕ → List ℕ → Call → Core
+after c base ram call = (step_of c base ram call).core
 
 -- rows 1 to 6, a row of its own, AT, and abort entry, on the cores and windows of the worked cases
 abbrev row : ℕ → ℕ → Kind → ℕ
@@ -30,6 +33,16 @@ par op2 = reads (at 1 0x1000) 0x1008 (bytes_of 8 0x80000401) (System (record { o
 
 abbrev esr : ℕ
 esr = reads (at 0 0x1000) 0x1008 (bytes_of 8 0x80000401) (Abort (data_abort_at 0x40001234 true (first 0x0D)))
+
+-- the core after case 1, case 1 again, and case 14
+abbrev first_known : Core
+first_known = after (at 1 0x1000) 0x1008 (bytes_of 8 0x80000401) (Translate Read 0x40001234)
+
+abbrev again : Core → ℕ
+again c = reads c 0x1008 (bytes_of 8 0x80000401) (Translate Read 0x40001234)
+
+abbrev two_pages : ℕ
+two_pages = reads (at 1 0x1000) 0x1008 (bytes_of 16 0x80000401) (Load 0x7FFFFFFF 8)
 
 abbrev pub ReadCases : Type 0
 ReadCases =
@@ -46,8 +59,11 @@ ReadCases =
     ∷ par 2
     ∷ esr
     ∷ elsewhere 0x1000 0x1FF8 0x7FFFFFFFFF
+    ∷ again first_known
+    ∷ again (after first_known 0x1008 (bytes_of 8 0x80000401) (Mark true))
+    ∷ two_pages
     ∷ [])
-    ≡ (1 ∷ 1 ∷ 1 ∷ 1 ∷ 1 ∷ 1 ∷ 0 ∷ 0 ∷ 1 ∷ 1 ∷ 1 ∷ 0 ∷ 1 ∷ [])
+    ≡ (1 ∷ 1 ∷ 1 ∷ 1 ∷ 1 ∷ 1 ∷ 0 ∷ 0 ∷ 1 ∷ 1 ∷ 1 ∷ 0 ∷ 1 ∷ 0 ∷ 0 ∷ 2 ∷ [])
 
 -- A TABLE THAT IS EACH LEVEL'S: its word at index 1 leads to itself, and is a page at the last level
 
@@ -73,11 +89,8 @@ four = deep 16 0x1000
 abbrev ram : List ℕ
 ram = bytes_of 120 (0x1443 + 0x2443 * 2 ^ 64)
 
-abbrev after : Core → Call → Core
-after c call = (step_of c 0x1008 ram call).core
-
 abbrev known : Core
-known = after four (Translate Read 0x8040201234)
+known = after four 0x1008 ram (Translate Read 0x8040201234)
 
 -- AT S1E1R and DC ZVA of X0, and TLBI VMALLE1
 abbrev at_call : Call
@@ -95,7 +108,7 @@ abbrev pub WorkedReads : Type 0
 WorkedReads =
     (reads four 0x1008 ram (Translate Read 0x8040201234)
     ∷ reads known 0x1008 ram (Translate Read 0x8040201234)
-    ∷ reads (after known (Mark true)) 0x1008 ram (Translate Read 0x8040201234)
+    ∷ reads (after known 0x1008 ram (Mark true)) 0x1008 ram (Translate Read 0x8040201234)
     ∷ reads four 0x1008 ram (Load 0x8040201FFC 8)
     ∷ reads known 0x1008 ram (Load 0x8040201FFC 8)
     ∷ reads four 0x1008 ram (Translate Read 0x8040601234)
@@ -104,8 +117,8 @@ WorkedReads =
     ∷ [])
     ≡ (4 ∷ 0 ∷ 0 ∷ 8 ∷ 4 ∷ 3 ∷ 0 ∷ 3 ∷ [])
 
--- Each call that may read: where a read or a fetch of the page goes, a load, a store, a fetch, a zeroing, an AT; and an AT where the page is known. TLBI and a
--- census read none.
+-- Each call that may read: where a read or a fetch of the page goes, a load, a store, a fetch, a zeroing, an AT; and an AT where the page is known. An AT with
+-- stage 1 off, TLBI and a census read none.
 abbrev pub ReadsOfCalls : Type 0
 ReadsOfCalls =
     (reads four 0x1008 ram (DataPa 0x8040201234)
@@ -116,7 +129,8 @@ ReadsOfCalls =
     ∷ reads four 0x1008 ram zva
     ∷ reads four 0x1008 ram at_call
     ∷ reads known 0x1008 ram at_call
+    ∷ reads (off 1 16 0x8040201040) 0x1008 ram at_call
     ∷ reads four 0x1008 ram tlbi
     ∷ reads four 0x1008 ram (Census 0x8040201000 1)
     ∷ [])
-    ≡ (4 ∷ 4 ∷ 4 ∷ 4 ∷ 4 ∷ 4 ∷ 4 ∷ 4 ∷ 0 ∷ 0 ∷ [])
+    ≡ (4 ∷ 4 ∷ 4 ∷ 4 ∷ 4 ∷ 4 ∷ 4 ∷ 4 ∷ 0 ∷ 0 ∷ 0 ∷ [])

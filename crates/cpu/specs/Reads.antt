@@ -3,7 +3,7 @@ use Rattle.std.specs.Prelude.{◌≡◌, ℕ, suc, ◌+◌, ◌^◌, ◌<◌, �
 use Rattle.word.specs.Bits.{align_down}
 use Rattle.word.specs.Ram.{word_at}
 use Rattle.walk.specs.Fetches.{fresh_reads}
-use Rattle.walk.specs.Regime.{bank_of}
+use Rattle.walk.specs.Regime.{bank_of, stage1_on}
 use Rattle.system.specs.declared.{decode.AtForm.AtForm, decode.Encoding.Encoding, decode.SysOp.SysOp}
 use Rattle.tlb.specs.Asks.{Ask, onward, answer_of, tlb_ask, work_of}
 use Rattle.tlb.specs.Live.{WellFormed}
@@ -57,13 +57,19 @@ ZeroingByFirst =
     (c : Core) (base : ℕ) (ram : List ℕ) (x : ℕ) (w : Work) → WellFormed c.tlb → x < 2 ^ 64
     → zero_work 8 c base ram (align_down x 6) w ≡ write_work c base ram (align_down x 6) 8 w
 
--- AT: the walk of its form's regime, whatever the cache
+-- at most 4
+abbrev pub ZeroingFour : Type 0
+ZeroingFour =
+    (c : Core) (base : ℕ) (ram : List ℕ) (x : ℕ) → WellFormed c.tlb → x < 2 ^ 64 → (zero_work 8 c base ram (align_down x 6) no_work).reads ≤ 4
+
+-- AT: the walk of its form's regime, whatever the cache; with stage 1 off none
 abbrev pub AtReads : Type 0
 AtReads =
     (c : Core) (base : ℕ) (ram : List ℕ) (e : Encoding) (form : AtForm) → missed_by c base ram (System e) ≡ 0
     → op_of c e.op1 e.crn e.crm e.op2 ≡ SysOp.At form
     → ((step_work c base ram (System e) no_work).reads ≡ fresh_reads (bank_of c.control form.regime) form.regime (reg_of c e.rt) (word_at base ram 8))
     × ((step_work c base ram (System e) no_work).reads ≤ 4)
+    × (stage1_on (bank_of c.control form.regime) form.regime ≡ false → (step_work c base ram (System e) no_work).reads ≡ 0)
 
 -- A CALL
 

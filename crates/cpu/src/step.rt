@@ -32,7 +32,7 @@ impl Core {
                 None => Reply::from(Check::Size),
             },
             Call::Fetch(va) => Reply::from(self.fetch(base, ram, va, work)),
-            Call::System(e) => { Reply::from(self.sys(base, ram, e, work)) }
+            Call::System(e) => Reply::from(self.sys(base, ram, e, work)),
             Call::Register(key, value) => Reply::from(self.write_reg(key, value)),
             Call::Level(level) => {
                 self.set_level((level % 4) as u8);
@@ -54,8 +54,8 @@ impl Core {
         }
     }
 
-    /// The number of the first check that the call misses, and then nothing changes; else the operation. The descriptors
-    /// that it reads are added to `work`.
+    /// The number of the first check that the call misses, and then nothing changes; else the operation. The
+    /// descriptors that it reads are added to `work`.
     #[tactic(auto, unfolding(crate::specs::Step::step_of, crate::specs::Step::ram_after, crate::specs::Work::step_work))]
     pub fn step(&mut self, base: u64, ram: &mut [u8], call: Call, work: &mut Work) -> Reply
         ensures core { record { core = self.new; reply = result } ≡ step_of self.old base ram.old call }

@@ -20,7 +20,8 @@ use Rattle.history.specs.History.{Effect, nothing, carries, writes, sets, Event,
 use Rattle.history.specs.History.{tlb_asks, tlb_after, tlb_event, tlb_run}
 use Rattle.history.specs.Invisible.{answers_run}
 use Rattle.history.proofs.Lists.{event-low, run-low}
-use Rattle.history.specs.ModelRun.{model_ask, model_answers, model_asks, model_flushed, model_retagged, model_after, model_event, model_run, model_answers_run, StandsFor}
+use Rattle.history.specs.ModelRun.{model_ask, model_answers, model_asks, model_flushed, model_retagged, model_after, model_event, model_run}
+use Rattle.history.specs.ModelRun.{model_answers_run, StandsFor}
 
 module _ (w : World) (laws : Laws w) where
   -- TRANSLATIONS

@@ -2,7 +2,7 @@
 use Rattle.std.specs.Prelude.{if◌then◌else◌, ◌≡◌, ℕ, ◌+◌, ◌/◌, ◌%◌, ◌^◌, ◌≤◌, Bool, true, false, ◌&&◌, ◌==◌, Option, Some, None}
 use Rattle.std.proofs.Math.Path.{refl, subst}
 use Rattle.tlb.specs.Access.{may_hint}
-use Rattle.tlb.proofs.Cells.{may-is, known_is, fetch-known-is}
+use Rattle.tlb.proofs.Cells.{and-false, may-is, known_is, fetch-known-is}
 use Rattle.tlb.specs.Counting.{how_work, how_looked, how_unhinted, how_tried, how_hinted, how_translated, how_fetched}
 use Rattle.tlb.specs.Entry.{slot_of, serves}
 use Rattle.tlb.specs.Hint.{hint_key, data_slot, fetch_serves, fetch_found, on_page}
@@ -71,10 +71,6 @@ module _ (a : Access) (t : Tlb) (w : Work) where
   flat-missed : a.on ≡ false → work_missed a t w ≡ w
   unfolding needs_walk
   flat-missed e = rw e
-
-  and-false : (b : Bool) → (b && false) ≡ false
-  and-false true = refl
-  and-false false = refl
 
   served-missed : (e : Entry) → get_of t (tag_in a) ≡ Some e → work_missed a t w ≡ w
   unfolding needs_walk

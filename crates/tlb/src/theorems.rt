@@ -69,8 +69,8 @@ pub fn counters_of_translations()
 {}
 
 // What a translation reads: by how the plain model answers it, the descriptors of its walk where it is walked, and
-// nothing by a hint, by an entry, or with stage 1 off. It rules out an entry hit that reports its walk's number again, a
-// walk that reports nothing, and a walk that is made where a hint or an entry serves.
+// nothing by a hint, by an entry, or with stage 1 off. It rules out an entry hit that reports its walk's number again,
+// a walk that reports nothing, and a walk that is made where a hint or an entry serves.
 pub fn work_of_translations()
     ensures translation { (a : Access) (t : Tlb) → WellFormed t → a.privilege.level ≤ 3 → (w : Work)
         → work_in a t w ≡ how_work (how_translated a (live t)) a.reads w }
@@ -78,7 +78,8 @@ pub fn work_of_translations()
         → fetch_work_in a t w ≡ how_work (how_fetched a (live t)) a.reads w }
     // said of an answer at hand, without the plain model
     ensures at_hand { (a : Access) (t : Tlb) (w : Work)
-        → (a.on ≡ false → work_in a t w ≡ w) × ((pa : ℕ) → hint_in a.privilege a.va a.kind t ≡ Some pa → work_in a t w ≡ w)
+        → (a.on ≡ false → work_in a t w ≡ w)
+        × ((pa : ℕ) → hint_in a.privilege a.va a.kind t ≡ Some pa → work_in a t w ≡ w)
         × ((e : Entry) → get_of t (tag_in a) ≡ Some e → work_in a t w ≡ w) }
     ensures walked { (a : Access) (t : Tlb) (w : Work) → a.on ≡ true → hint_in a.privilege a.va a.kind t ≡ None
         → get_of t (tag_in a) ≡ None → (work_in a t w).reads ≡ (w.reads + a.reads) % 2 ^ 64 }

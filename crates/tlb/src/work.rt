@@ -5,6 +5,7 @@ ghost use Rattle.tlb.specs.Work.{no_work, read_more};
 /// The descriptors that walks read. A count wraps at 2^64.
 #[derive(Clone, Copy)]
 pub struct Work {
+    /// How many descriptors the walks read so far, those outside RAM too.
     pub reads: u64,
 }
 

@@ -22,7 +22,8 @@ use Rattle.cpu.specs.OpLaws.{access_now}
 use Rattle.cpu.specs.Results.{Stored}
 use Rattle.cpu.specs.Step.{refused_or}
 use Rattle.cpu.specs.System.{on_stored}
-use Rattle.cpu.specs.Work.{translate_work, fetch_work, access_work, write_work, zero_work, at_work, sys_work_by, sys_work, load_work_by, store_work_by, run_work, step_work}
+use Rattle.cpu.specs.Work.{translate_work, fetch_work, access_work, write_work, zero_work, at_work, sys_work_by, sys_work, load_work_by, store_work_by}
+use Rattle.cpu.specs.Work.{run_work, step_work}
 use Rattle.cpu.specs.declared.Core.{Core}
 use Rattle.cpu.specs.declared.call.Call.{Call}
 use Rattle.cpu.specs.declared.call.Call.TheVariants.{Translate, DataPa, FetchPa, Load, Store, Fetch, System, Register}

@@ -17,8 +17,8 @@ pub enum Fresh {
 }
 
 impl Bank {
-    /// The fresh answer of `va`, tag and all, in the regime, over the RAM that starts at `base`; and how many descriptors
-    /// its walk read.
+    /// The fresh answer of `va`, tag and all, in the regime, over the RAM that starts at `base`; and how many
+    /// descriptors its walk read.
     #[inline(always)]
     #[tactic(auto, unfolding(crate::specs::Fresh::fresh_of, crate::specs::Fetches::fresh_reads))]
     pub fn fresh_with_reads(self, regime: Regime, va: u64, base: u64, ram: &[u8]) -> (Fresh, u8)
