@@ -1,6 +1,7 @@
 -- The codes of the boundary, in numbers: the call and the exception that words name, and what is told of a reply.
 use Rattle.std.specs.Prelude.{◌≡◌, ℕ, false, true, List, [], ◌∷◌, ◌++◌, Ok, Err}
 use Rattle.fault.specs.First.{first}
+use Rattle.word.specs.Ram.{bytes_of}
 use Rattle.tlb.specs.declared.access.Kind.TheVariants.{Read, Write, Fetch}
 use Rattle.exception.specs.Abort.{data_abort_at, insn_abort_at}
 use Rattle.exception.specs.declared.{kind.Exception.Exception, kind.Stop.Stop}
@@ -101,16 +102,30 @@ pub record ReplyCodes (a reads old : ℕ) : Type 0 where
 abbrev a_leaf : Leaf
 a_leaf = record { oa = 11; desc = 12; perms = 13; level = 3; global = true }
 
+-- a walk of EL3: TCR 25, TTBR0 0x1000, address 0x40001234, and a window of eight bytes at 0x1008, where its first descriptor lies
+abbrev walked_words : ℕ → List ℕ → List ℕ
+walked_words word out = walk_words (1 ∷ 25 ∷ 0x1000 ∷ 0 ∷ 0 ∷ 0 ∷ []) 3 0x4000_1234 0x1008 (bytes_of 8 word) out
+
+-- an address that its range refuses: no descriptor is read
+abbrev out_of_range : List ℕ → List ℕ
+out_of_range out = walk_words (1 ∷ 25 ∷ 0x1000 ∷ 0 ∷ 0 ∷ 0 ∷ []) 3 0x80_0000_0000 0x1008 (bytes_of 8 0x8000_0401) out
+
 -- regimes 1 to 3, the words of the registers and of a leaf with what was read, and the numbers
 pub record WalkCodes (words : List ℕ) (va : ℕ) : Type 0 where
   pub el1 : regime_at 1 ≡ Ok El1
   pub el2 : regime_at 2 ≡ Ok El2
   pub el3 : regime_at 3 ≡ Ok El3
   pub registers : bank_at (11 ∷ 12 ∷ 13 ∷ 14 ∷ 15 ∷ 16 ∷ []) ≡ record { sctlr = 11; tcr = 12; ttbr0 = 13; ttbr1_el1 = 14; scr_el3 = 15; hcr_el2 = 16 }
-  pub leaf : leaf_after a_leaf 4 ≡ (11 ∷ 12 ∷ 13 ∷ 3 ∷ 1 ∷ 4 ∷ [])
-  -- a fault writes the sixth word alone, a walk that is refused none
+  pub leaf : leaf_after a_leaf 2 ≡ (11 ∷ 12 ∷ 13 ∷ 3 ∷ 1 ∷ 2 ∷ [])
+  -- whole walks of one descriptor each: a block, and a fault, which writes the sixth word alone; and one that reads none
+  pub block : (out : List ℕ) → walked_words 0x8000_0401 out ≡ (0x8000_1234 ∷ 0x8000_0401 ∷ 0x38 ∷ 1 ∷ 1 ∷ 1 ∷ [])
+  pub invalid : walked_words 0 (1 ∷ 2 ∷ 3 ∷ 5 ∷ 6 ∷ 7 ∷ []) ≡ (1 ∷ 2 ∷ 3 ∷ 5 ∷ 6 ∷ 1 ∷ [])
+  pub range : out_of_range (1 ∷ 2 ∷ 3 ∷ 5 ∷ 6 ∷ 7 ∷ []) ≡ (1 ∷ 2 ∷ 3 ∷ 5 ∷ 6 ∷ 0 ∷ [])
   pub faulted : words_of (Err 0x21) 4 (1 ∷ 2 ∷ 3 ∷ 5 ∷ 6 ∷ 7 ∷ []) ≡ (1 ∷ 2 ∷ 3 ∷ 5 ∷ 6 ∷ 4 ∷ [])
-  pub refused : (out : List ℕ) → walk_words words 0 va 0 [] out ≡ out
+  -- a walk that is refused writes none
+  pub unwritten_0 : (out : List ℕ) → walk_words words 0 va 0 [] out ≡ out
+  pub unwritten_4 : (out : List ℕ) → walk_words words 4 va 0 [] out ≡ out
+  pub unwritten_past : (out : List ℕ) → walk_words words 1 va 0xFFFF_FFFF_FFFF_FFFF (0 ∷ 0 ∷ []) out ≡ out
   pub no_regime_0 : walk_code words 0 va 0 [] ≡ 64
   pub no_regime_4 : walk_code words 4 va 0 [] ≡ 64
   -- two bytes at the last address

@@ -58,7 +58,8 @@ fn stopped(stop: Stop, work: Work, ans: &mut Report) -> u64
     }
 }
 
-// The number of a store's answer, and in ans the address of its data abort and what was read.
+/// The number of a store's answer: 0, 65, 66, or 256 plus a fault's status; in `ans` the address of its data abort, and
+/// how many descriptors were read. Nothing of `ans` is written with 65 and 66.
 pub fn stored(answer: Result<(), Stop>, work: Work, ans: &mut Report) -> u64
     ensures number { result ≡ code_by (storing answer) }
     ensures value { ans.new.value ≡ value_by (storing answer) ans.old.value }
@@ -73,7 +74,9 @@ pub fn stored(answer: Result<(), Stop>, work: Work, ans: &mut Report) -> u64
     }
 }
 
-// The number of a reply, and in ans its value or the address of its data abort, and what was read.
+/// The number of a reply: 0, that of the check that was missed, 65, 66, or 256 plus a fault's status; in `ans` its
+/// value, or the address of its data abort, and how many descriptors were read. With a number from 1 to 255 nothing of
+/// `ans` is written.
 pub fn answer(reply: Reply, work: Work, ans: &mut Report) -> u64
     ensures number { result ≡ code_by reply }
     ensures value { ans.new.value ≡ value_by reply ans.old.value }
@@ -131,7 +134,7 @@ fn stop_words(stop: Stop) -> [u64; 4]
     }
 }
 
-// The four words of a reply.
+/// The four words of a reply: what it is, then what it holds (a value, an address, a status, 1 for a write).
 #[tactic(auto, unfolding(crate::specs::Replies::words_by))]
 pub fn words(reply: Reply) -> [u64; 4]
     ensures { result ≡ words_by reply }
@@ -146,7 +149,7 @@ pub fn words(reply: Reply) -> [u64; 4]
     }
 }
 
-// The four words, and then what was read: 0 where nothing of a report is written.
+/// The four words, and then how many descriptors were read: 0 where nothing of a report is written.
 pub fn step_words(reply: Reply, work: Work) -> [u64; 5]
     ensures { result ≡ step_words reply work.reads }
 {

@@ -38,8 +38,9 @@ fn put_leaf(out: &mut [u64; 6], leaf: Leaf, reads: u8)
     ];
 }
 
-// One walk of an untagged address: 0 and the leaf, or 256 plus the fault's status, and in either case how many
-// descriptors it read; 64 for no regime, 2 for a window that passes 2^64, and no word is written.
+/// One walk of an untagged address: 0 and the leaf, or 256 plus the fault's status, and in either case how many
+/// descriptors it read, which is the sixth word, and of a fault the only one that is written. 64 for no regime, 2 for a
+/// window that passes 2^64, and no word is written.
 #[tactic(auto, unfolding(crate::specs::Walk::walk_code, crate::specs::Walk::walk_words))]
 pub fn walk_words(
     words: &[u64; 6],

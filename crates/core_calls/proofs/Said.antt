@@ -18,7 +18,8 @@ use Rattle.core_calls.specs.Promise.{Promise, Setting}
 use Rattle.core_calls.proofs.Promised.{by-number}
 
 module _ (x : Call) (base : ℕ) (ram : List ℕ) (c : Core) where
-  pub told : (n : ℕ) (old new : Report) (ys : List ℕ) (d : Core) → Tells (step_of c base ram x) (step_work c base ram x no_work) old n new d → ys ≡ ram_after c base ram x
+  pub told : (n : ℕ) (old new : Report) (ys : List ℕ) (d : Core) → Tells (step_of c base ram x) (step_work c base ram x no_work) old n new d
+      → ys ≡ ram_after c base ram x
       → Promise (Known x) base ram c n old new ys d
   told n old new ys d t ey = by-number x base ram c n old new ys d t.number t.value t.reads ey t.core
 
@@ -40,7 +41,8 @@ nothing base ram c n old new d s =
       faithful = tt;
     }
 
-pub translation-said : (w : Result Kind NoSuchKind) (va base : ℕ) (ram : List ℕ) (c : Core) (n : ℕ) (old new : Report) (d : Core) → Says (translate_call w va) c base ram old n new d
+pub translation-said : (w : Result Kind NoSuchKind) (va base : ℕ) (ram : List ℕ) (c : Core) (n : ℕ) (old new : Report) (d : Core)
+    → Says (translate_call w va) c base ram old n new d
     → Promise (translate_call w va) base ram c n old new ram d
 unfolding translate_call
 translation-said (Ok k) va base ram c n old new d s = read-told (Call.Translate k va) base ram c refl n old new d s

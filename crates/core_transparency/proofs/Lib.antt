@@ -1,2 +1,3 @@
 mod Counters
+mod ReportReads
 mod Whole

@@ -1,4 +1,5 @@
 pub mod OnCore
 pub mod Run
 pub mod Counters
+pub mod Reads
 pub mod Whole

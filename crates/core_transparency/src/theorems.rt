@@ -3,6 +3,7 @@
 ghost use Rattle.core_transparency.specs.OnCore.{made_is_core};
 ghost use Rattle.core_transparency.specs.OnCore.{faithful_on_core, faithful_step_on_core, counts_on_core};
 ghost use Rattle.core_transparency.specs.Counters.{hits_on_core, walks_on_core, sums_on_core};
+ghost use Rattle.core_transparency.specs.Reads.{reads_on_core, step_reads_on_core};
 ghost use Rattle.core_transparency.specs.Whole.{call_keeps_whole, made_is_whole, made_is_saved};
 
 /// Such a core is the core after the list. Rules out a call that promises one core and leaves another.
@@ -25,6 +26,16 @@ pub fn counters_on_core()
     ensures hits { hits_on_core }
     ensures walks { walks_on_core }
     ensures sums { sums_on_core }
+{}
+
+/// What a call reports as read on such a core, with a number of a value or of a fault, is what `every_read` says of it
+/// after the list: the descriptors of the walks that the plain model makes of its translations, and those of AT's own
+/// walk; so is the fifth word of a step, which is 0 where the call is refused, Undefined or Unimplemented. Rules out a
+/// boundary that reports 0 for every call, one that leaves in the report what an earlier call read, and one that adds
+/// to it, in code and definition alike.
+pub fn reads_on_core()
+    ensures report { reads_on_core }
+    ensures step { step_reads_on_core }
 {}
 
 /// What words hold of a core is all of it, after every list of calls: place 0 of the arrays by level, which has no

@@ -121,21 +121,26 @@ module _ (c : Core) (base : ℕ) (ram : List ℕ) (va : ℕ) (old : Report) (n :
   abbrev StepTells : Call → Type 0
   StepTells x = Tells (step_of c base ram x) (step_work c base ram x no_work) old n new d
 
-  pub translate-told : (kind : Kind) → Tells (ram_checked c base ram (asked_run true va (translate_of c (word_at base ram 8) va kind))) (translate_work c (word_at base ram 8) va kind no_work) old n new d
+  pub translate-told : (kind : Kind)
+      → Tells (ram_checked c base ram (asked_run true va (translate_of c (word_at base ram 8) va kind)))
+      (translate_work c (word_at base ram 8) va kind no_work) old n new d
       → StepTells (Translate kind va)
   unfolding step_of run_of missed_of step_work run_work
   translate-told kind t = checked-work c _ _ old n new d rows t
 
-  pub data-told : Tells (ram_checked c base ram (asked_run false va (translate_of c (word_at base ram 8) va Read))) (translate_work c (word_at base ram 8) va Read no_work) old n new d
+  pub data-told : Tells (ram_checked c base ram (asked_run false va (translate_of c (word_at base ram 8) va Read)))
+      (translate_work c (word_at base ram 8) va Read no_work) old n new d
       → StepTells (DataPa va)
   unfolding step_of run_of missed_of data_pa_of translate_of step_work run_work
   data-told t = checked-work c _ _ old n new d rows t
 
-  pub fetch-told : Tells (ram_checked c base ram (fetch_run true c base ram va)) (fetch_work c (word_at base ram 8) va no_work) old n new d → StepTells (Fetch va)
+  pub fetch-told : Tells (ram_checked c base ram (fetch_run true c base ram va)) (fetch_work c (word_at base ram 8) va no_work) old n new d
+      → StepTells (Fetch va)
   unfolding step_of run_of missed_of step_work run_work
   fetch-told t = checked-work c _ _ old n new d rows t
 
-  pub pa-told : Tells (ram_checked c base ram (fetch_run false c base ram va)) (fetch_work c (word_at base ram 8) va no_work) old n new d → StepTells (FetchPa va)
+  pub pa-told : Tells (ram_checked c base ram (fetch_run false c base ram va)) (fetch_work c (word_at base ram 8) va no_work) old n new d
+      → StepTells (FetchPa va)
   unfolding step_of run_of missed_of step_work run_work
   pa-told t = checked-work c _ _ old n new d rows t
 
@@ -150,7 +155,8 @@ module _ (c : Core) (base : ℕ) (ram : List ℕ) (va : ℕ) where
   store-rows size value n e = e
 
   module _ (size : ℕ) (w : Width) (sized : width_of size ≡ Some w) (e : 0 ≡ first_of (sized_rows c.privilege.level base (length ram) size)) where
-    pub loaded : (old : Report) (n : ℕ) (new : Report) (d : Core) → Tells (after_load (read_of c base ram va (bytes_in w))) (read_work c base ram va (bytes_in w) no_work) old n new d
+    pub loaded : (old : Report) (n : ℕ) (new : Report) (d : Core)
+        → Tells (after_load (read_of c base ram va (bytes_in w))) (read_work c base ram va (bytes_in w) no_work) old n new d
         → Tells (step_of c base ram (Load va size)) (step_work c base ram (Load va size) no_work) old n new d
     unfolding run_of run_work
     loaded old n new d t =
@@ -158,7 +164,8 @@ module _ (c : Core) (base : ℕ) (ram : List ℕ) (va : ℕ) where
         (subst (λ (x : Option Width). Tells (load_by x c base ram va) (load_work_by x c base ram va no_work) old n new d) (sym sized) t)
 
     module _ (value : ℕ) where
-      pub stored : (old : Report) (n : ℕ) (new : Report) (d : Core) → Tells (after_store (write_of c base ram va (bytes_in w))) (write_work c base ram va (bytes_in w) no_work) old n new d
+      pub stored : (old : Report) (n : ℕ) (new : Report) (d : Core)
+          → Tells (after_store (write_of c base ram va (bytes_in w))) (write_work c base ram va (bytes_in w) no_work) old n new d
           → Tells (step_of c base ram (Store va size value)) (step_work c base ram (Store va size value) no_work) old n new d
       unfolding run_of run_work
       stored old n new d t =

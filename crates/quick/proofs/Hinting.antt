@@ -1,5 +1,6 @@
 -- A hint that is asked by one condition, on plain values.
-use Rattle.std.specs.Prelude.{if◌then◌else◌, ◌≡◌, ◌+◌, ◌-◌, ◌*◌, ◌/◌, ◌%◌, ◌^◌, ◌<◌, ◌≤◌, ◌&&◌, ◌||◌, not, nat_le, eqb, leb, Bool, true, false, ℕ, List, length, Option, Some, None, Result, Ok, Err, slice_index_or}
+use Rattle.std.specs.Prelude.{if◌then◌else◌, ◌≡◌, ◌+◌, ◌-◌, ◌*◌, ◌/◌, ◌%◌, ◌^◌, ◌<◌, ◌≤◌, ◌&&◌, ◌||◌, not, nat_le, eqb, leb, Bool, true, false, ℕ}
+use Rattle.std.specs.Prelude.{List, length, Option, Some, None, Result, Ok, Err, slice_index_or}
 use Rattle.std.specs.Bool.{then_some}
 use Rattle.std.proofs.Common.{refl, sym, ap, ◌∙◌, arith, subst, eqb-true, le-leb, leb-true}
 use Rattle.std.proofs.lemmas.Bool.{lt-leb}
@@ -70,7 +71,9 @@ module _ (c : Core) (va base len s : ℕ) (es : s ≡ data_slot va Read) where
   at known i page = then_some (known && (eqb (hint i).key (page + asker) && (leb asker 3 && fits))) (on_page (hint i).pa va)
 
   -- of a read or a write, whose place is i
-  placed : (i : ℕ) → at true i (va - va % 4096) ≡ (if plain c base len then (if not c.privilege.unprivileged then (if eqb (hint i).key (va / 4096 * 4096 + c.privilege.level) then Some (on_page (hint i).pa va) else None) else None) else None)
+  placed : (i : ℕ) → at true i (va - va % 4096)
+      ≡ (if plain c base len
+      then (if not c.privilege.unprivileged then (if eqb (hint i).key (va / 4096 * 4096 + c.privilege.level) then Some (on_page (hint i).pa va) else None) else None) else None)
   placed i =
       let page : va - va % 4096 ≡ va / 4096 * 4096 = omega arith in
       ap (at true i) page ∙ asked c.privilege.level (hint i).key (va / 4096 * 4096) (on_page (hint i).pa va) fits c.privilege.unprivileged
@@ -138,20 +141,23 @@ module _ (c : Core) (base : ℕ) (ram : List ℕ) (va : ℕ) (long : length ram 
   report r old = record { value = value_by r old.value; reads = reads_by r 0 old.reads }
 
   told : (k : Kind) (pa : ℕ) → served c base (length ram) va (Ok k) ≡ Some pa → (b : Bool) (old : Report)
-      → Tells (ram_checked c base ram (asked_run b va (translate_of c memory va k))) (translate_work c memory va k no_work) old (code_by (asked_reply b va (Ok pa))) (report (asked_reply b va (Ok pa)) old) c
+      → Tells (ram_checked c base ram (asked_run b va (translate_of c memory va k))) (translate_work c memory va k no_work) old
+      (code_by (asked_reply b va (Ok pa))) (report (asked_reply b va (Ok pa)) old) c
   told k pa e b old =
       let s = split (nat_le c.privilege.level 3) (nat_le base (2 ^ 64 - 1 - length ram)) (hint_in c.privilege va k c.tlb) pa e in
       let level : c.privilege.level ≤ 3 = leb-true c.privilege.level 3 s.0 in
       let low : c.privilege.level < 4 = omega (arith, level) in
       let fits : base ≤ 2 ^ 64 - 1 - length ram = leb-true base (2 ^ 64 - 1 - length ram) s.1 in
       ram-told c base ram _ _ (clear c base ram low long fits) _ _ _ _
-      (asked-told c memory va k c (Ok pa) no_work b (hint-moves c memory va k pa no_work s.2 refl) old _ (report (asked_reply b va (Ok pa)) old) (refl, refl, refl))
+      (asked-told c memory va k c (Ok pa) no_work b (hint-moves c memory va k pa no_work s.2 refl) old _
+      (report (asked_reply b va (Ok pa)) old) (refl, refl, refl))
 
   pub data-served : (pa : ℕ) → served c base (length ram) va (Ok Read) ≡ Some pa → (old : Report)
       → Tells (step_of c base ram (DataPa va)) (step_work c base ram (DataPa va) no_work) old 0 (unread pa) c
   data-served pa e old = data-told c base ram va old 0 (unread pa) c (told Read pa e false old)
 
-  pub kind-served : (r : Result Kind NoSuchKind) (pa : ℕ) → served c base (length ram) va r ≡ Some pa → (old : Report) → Says (translate_call r va) c base ram old 0 (unread pa) c
+  pub kind-served : (r : Result Kind NoSuchKind) (pa : ℕ) → served c base (length ram) va r ≡ Some pa → (old : Report)
+      → Says (translate_call r va) c base ram old 0 (unread pa) c
   unfolding translate_call
   kind-served (Ok k) pa e old = translate-told c base ram va old 0 (unread pa) c k (told k pa e true old)
   kind-served (Err x) pa e old = absurd (subst is_at (sym e) tt)

@@ -36,7 +36,9 @@ goes-not (Err f) = refl
 
 module _ (c : Core) (base : ℕ) (ram : List ℕ) (va n : ℕ) (near : n ≤ in_page va) where
   pub stays_in : (a : Answer) → goes_on a (crosses (stage1_on (bank_now c) (regime_of c.privilege.level)) va n) ≡ false
-  stays_in a = ap (λ (b : Bool). goes_on a (stage1_on (bank_now c) (regime_of c.privilege.level) && b)) (le-ltb (in_page va) n near) ∙ ap (goes_on a) (and-false (stage1_on (bank_now c) (regime_of c.privilege.level))) ∙ goes-not a
+  stays_in a =
+      ap (λ (b : Bool). goes_on a (stage1_on (bank_now c) (regime_of c.privilege.level) && b)) (le-ltb (in_page va) n near)
+      ∙ ap (goes_on a) (and-false (stage1_on (bank_now c) (regime_of c.privilege.level))) ∙ goes-not a
 
   abbrev ended : Translated → Loaded
   ended t = loaded_by t.core t.core.tlb (load_end (placed_one va t.answer) t.core.last_pa t.core.abort_pa base ram va n)
@@ -45,7 +47,8 @@ module _ (c : Core) (base : ℕ) (ram : List ℕ) (va n : ℕ) (near : n ≤ in_
   unfolding read_of located_now located_of translate_of stepped_now after_access
   read_one = rw (stays_in (translate_of c (word_at base ram 8) va Read).answer) refl
 
-  pub ended-is : (d : Core) (a : Answer) → record { core = d; answer = a } ≡ translate_of c (word_at base ram 8) va Read → ended_of d a base ram va n ≡ read_of c base ram va n
+  pub ended-is : (d : Core) (a : Answer) → record { core = d; answer = a } ≡ translate_of c (word_at base ram 8) va Read
+      → ended_of d a base ram va n ≡ read_of c base ram va n
   ended-is d a et = ap ended et ∙ sym read_one
 
 -- the ends
@@ -86,18 +89,26 @@ module _ (c : Core) (base : ℕ) (ram : List ℕ) (va n pa pa2 v : ℕ) where
   memory = word_at base ram 8
 
   abbrev go : Stepped₁ → Located
-  go a = if goes_on a.answer (crosses (stage1_on (bank_now c) (regime_of c.privilege.level)) va n) then both_pages va a.answer (translate_in (bank_now c) c.privilege memory (next_page va) Read a.tlb) else one_page va a
+  go a = if goes_on a.answer (crosses (stage1_on (bank_now c) (regime_of c.privilege.level)) va n)
+      then both_pages va a.answer (translate_in (bank_now c) c.privilege memory (next_page va) Read a.tlb)
+      else one_page va a
 
-  stepped : (x p : ℕ) → hint_in c.privilege x Read c.tlb ≡ Some p → translate_in (bank_now c) c.privilege memory x Read c.tlb ≡ record { tlb = c.tlb; answer = Ok p }
+  stepped : (x p : ℕ) → hint_in c.privilege x Read c.tlb ≡ Some p
+      → translate_in (bank_now c) c.privilege memory x Read c.tlb ≡ record { tlb = c.tlb; answer = Ok p }
   unfolding translate_of stepped_now after_access
   stepped x p h = ap (λ (t : Translated). record { tlb = t.core.tlb; answer = t.answer }) (hint-serves c memory x Read p h)
 
-  pub two-read : crosses (stage1_on (bank_now c) (regime_of c.privilege.level)) va n ≡ true → hint_in c.privilege va Read c.tlb ≡ Some pa → hint_in c.privilege (next_page va) Read c.tlb ≡ Some pa2
-      → load_of base ram (Split (record { in_page = in_page va; pa = pa; pa2 = pa2 })) n ≡ Ok v → record { core = record c { last_pa = pa }; answer = Ok v } ≡ read_of c base ram va n
+  pub two-read : crosses (stage1_on (bank_now c) (regime_of c.privilege.level)) va n ≡ true
+      → hint_in c.privilege va Read c.tlb ≡ Some pa → hint_in c.privilege (next_page va) Read c.tlb ≡ Some pa2
+      → load_of base ram (Split (record { in_page = in_page va; pa = pa; pa2 = pa2 })) n ≡ Ok v
+      → record { core = record c { last_pa = pa }; answer = Ok v } ≡ read_of c base ram va n
   unfolding read_of located_now located_of load_end after_access
   two-read k h h2 w =
-      let second : both_pages va (Ok pa) (translate_in (bank_now c) c.privilege memory (next_page va) Read c.tlb) ≡ record { tlb = c.tlb; placed = placed_both va (Ok pa) (Ok pa2) } = ap (both_pages va (Ok pa)) (stepped (next_page va) pa2 h2) in
+      let second : both_pages va (Ok pa) (translate_in (bank_now c) c.privilege memory (next_page va) Read c.tlb)
+      ≡ record { tlb = c.tlb; placed = placed_both va (Ok pa) (Ok pa2) }
+      = ap (both_pages va (Ok pa)) (stepped (next_page va) pa2 h2) in
       let first : located_of (bank_now c) c.privilege memory va n Read c.tlb ≡ go (record { tlb = c.tlb; answer = Ok pa }) = ap go (stepped va pa h) in
-      let chosen : go (record { tlb = c.tlb; answer = Ok pa }) ≡ both_pages va (Ok pa) (translate_in (bank_now c) c.privilege memory (next_page va) Read c.tlb) = rw k refl in
+      let chosen : go (record { tlb = c.tlb; answer = Ok pa })
+      ≡ both_pages va (Ok pa) (translate_in (bank_now c) c.privilege memory (next_page va) Read c.tlb) = rw k refl in
       sym (ap (λ (a : Located). loaded_by c a.tlb (load_end a.placed c.last_pa c.abort_pa base ram va n)) (first ∙ chosen ∙ second)
       ∙ ap (λ (g : Got). loaded_by c c.tlb (loaded_from (Split (record { in_page = in_page va; pa = pa; pa2 = pa2 })) g c.abort_pa va)) w)

@@ -94,7 +94,8 @@ module _ (d : Core) (base : ℕ) (ram : List ℕ) (va n : ℕ) where
           ∙ ap judged (whole-outside base ram pa n f t ef) ∙ ap by (sym e)
 
 -- a store of one page, by its translation
-module _ (c : Core) (base : ℕ) (ram : List ℕ) (va n : ℕ) (near : n ≤ in_page va) (d : Core) (a : Answer) (k : Work) (moved : Moved c (word_at base ram 8) va Write d a k) where
+module _ (c : Core) (base : ℕ) (ram : List ℕ) (va n : ℕ) (near : n ≤ in_page va) (d : Core) (a : Answer) (k : Work)
+    (moved : Moved c (word_at base ram 8) va Write d a k) where
   pub told : (old : Report) (m : ℕ) (new : Report) (e : Core) → Tells (after_store (stored_of d a base ram va n)) k old m new e
       → Tells (after_store (write_of c base ram va n)) (write_work c base ram va n no_work) old m new e
   told old m new e t =
@@ -112,9 +113,12 @@ module _ (c : Core) (base : ℕ) (ram : List ℕ) (va n pa pa2 : ℕ) where
   pages = record { in_page = in_page va; pa = pa; pa2 = pa2 }
 
   abbrev go : Stepped₁ → Located
-  go a = if goes_on a.answer (crosses (stage1_on (bank_now c) (regime_of c.privilege.level)) va n) then both_pages va a.answer (translate_in (bank_now c) c.privilege memory (next_page va) Write a.tlb) else one_page va a
+  go a = if goes_on a.answer (crosses (stage1_on (bank_now c) (regime_of c.privilege.level)) va n)
+      then both_pages va a.answer (translate_in (bank_now c) c.privilege memory (next_page va) Write a.tlb)
+      else one_page va a
 
-  stepped : (x p : ℕ) → hint_in c.privilege x Write c.tlb ≡ Some p → translate_in (bank_now c) c.privilege memory x Write c.tlb ≡ record { tlb = c.tlb; answer = Ok p }
+  stepped : (x p : ℕ) → hint_in c.privilege x Write c.tlb ≡ Some p
+      → translate_in (bank_now c) c.privilege memory x Write c.tlb ≡ record { tlb = c.tlb; answer = Ok p }
   unfolding translate_of stepped_now after_access
   stepped x p h = ap (λ (t : Translated). record { tlb = t.core.tlb; answer = t.answer }) (hint-serves c memory x Write p h)
 
@@ -123,9 +127,12 @@ module _ (c : Core) (base : ℕ) (ram : List ℕ) (va n pa pa2 : ℕ) where
     located-two : located_now c memory va n Write ≡ record { tlb = c.tlb; placed = Ok (Split pages) }
     unfolding located_now located_of
     located-two =
-        let second : both_pages va (Ok pa) (translate_in (bank_now c) c.privilege memory (next_page va) Write c.tlb) ≡ record { tlb = c.tlb; placed = placed_both va (Ok pa) (Ok pa2) } = ap (both_pages va (Ok pa)) (stepped (next_page va) pa2 h2) in
+        let second : both_pages va (Ok pa) (translate_in (bank_now c) c.privilege memory (next_page va) Write c.tlb)
+        ≡ record { tlb = c.tlb; placed = placed_both va (Ok pa) (Ok pa2) }
+        = ap (both_pages va (Ok pa)) (stepped (next_page va) pa2 h2) in
         let first : located_of (bank_now c) c.privilege memory va n Write c.tlb ≡ go (record { tlb = c.tlb; answer = Ok pa }) = ap go (stepped va pa h) in
-        let chosen : go (record { tlb = c.tlb; answer = Ok pa }) ≡ both_pages va (Ok pa) (translate_in (bank_now c) c.privilege memory (next_page va) Write c.tlb) = rw k refl in
+        let chosen : go (record { tlb = c.tlb; answer = Ok pa })
+        ≡ both_pages va (Ok pa) (translate_in (bank_now c) c.privilege memory (next_page va) Write c.tlb) = rw k refl in
         first ∙ chosen ∙ second
 
     module _ (long : length ram < 2 ^ 64) where
@@ -149,7 +156,8 @@ module _ (c : Core) (base : ℕ) (ram : List ℕ) (va n pa pa2 : ℕ) where
       put-two v false ys ef ey = ey ∙ rw (← ef) refl
 
 -- a store that was made
-pub made : (c : Core) (base : ℕ) (ram : List ℕ) (va n v : ℕ) (f : Bool) (ys : List ℕ) → f ≡ true → PutTwo c base ram va n v f ys → PutTwo c base ram va n v true ys
+pub made : (c : Core) (base : ℕ) (ram : List ℕ) (va n v : ℕ) (f : Bool) (ys : List ℕ) → f ≡ true → PutTwo c base ram va n v f ys
+    → PutTwo c base ram va n v true ys
 made c base ram va n v f ys e p = subst (λ (b : Bool). PutTwo c base ram va n v b ys) e p
 
 -- two bytes, one in each page

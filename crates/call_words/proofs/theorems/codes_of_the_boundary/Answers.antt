@@ -1,4 +1,10 @@
 use Rattle.std.specs.Prelude.{refl}
+use Rattle.word.specs.Ram.{word_at, little_endian, bytes_of}
+use Rattle.walk.specs.Size.{pa_size}
+use Rattle.walk.specs.Table.{range_of, params_of, table_next, leaf_permissions, leaf_translation, leaf_result, level_next, descaddr, lookup_next, walk_from}
+use Rattle.walk.specs.Table.{walk_range, table_walk}
+use Rattle.walk.specs.Walk.{walk_of}
+use Rattle.walk.specs.Fetches.{fetches_of, fetches_range, fetches_from}
 use Rattle.call_words.specs.Ops.{data_abort_of, call_exception_of, exception_of, translate_call, call_of}
 use Rattle.call_words.specs.Replies.{words_by}
 use Rattle.call_words.specs.Walk.{walk_code, walk_words}
@@ -67,15 +73,21 @@ returns-clause-replies _ a reads old = record {
 }
 
 pub returns-clause-walks : goal.returns-clause-walks
-unfolding walk_code walk_words
+unfolding walk_code walk_words walk_of table_walk walk_range walk_from lookup_next level_next leaf_result leaf_translation leaf_permissions table_next descaddr
+    range_of params_of pa_size fetches_of fetches_range fetches_from word_at little_endian bytes_of
 returns-clause-walks _ words va = record {
   el1 = refl;
   el2 = refl;
   el3 = refl;
   registers = refl;
   leaf = refl;
+  block = λ out. refl;
+  invalid = refl;
+  range = refl;
   faulted = refl;
-  refused = λ out. refl;
+  unwritten_0 = λ out. refl;
+  unwritten_4 = λ out. refl;
+  unwritten_past = λ out. refl;
   no_regime_0 = refl;
   no_regime_4 = refl;
   window = refl;

@@ -11,7 +11,9 @@ use Rattle.quick.proofs.store.pages.Goals as goal
 
 pub returns-then-store : goal.returns-then-store
 returns-then-store g c =
-    let done = subst (λ (x : Width). PutTwo c.args.core.now c.args.base c.args.ram.now c.args.va (bytes_in x) c.args.value true c.store.new.ram) c.WIDTH.ensures (made _ _ _ _ _ _ _ _ c.if-store.true c.store.ensures) in
+    let done =
+    subst (λ (x : Width). PutTwo c.args.core.now c.args.base c.args.ram.now c.args.va (bytes_in x) c.args.value true c.store.new.ram)
+    c.WIDTH.ensures (made _ _ _ _ _ _ _ _ c.if-store.true c.store.ensures) in
     record {
       tells = tells _ _ _ Done _ _ _ _ (ap after_store done.0) done.1 refl refl refl;
       ram = done.2;
