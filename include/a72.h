@@ -298,17 +298,18 @@ static inline uint8_t a72_status(uint64_t number) { return (uint8_t)(number - A7
  * makes no walk where a hint, an entry or stage 1 off answers it, AT none with stage 1 off; any other makes one. An
  * access over two pages translates both, but where the first faults; DC ZVA up to its first store that faults. */
 typedef struct a72_answer {
-    uint64_t value; /* what it gives, or of a fault the address, as said of each call */
+    uint64_t value; /* what it gives, or the address of a fault, where this is said of the call; otherwise it stays */
     uint64_t reads; /* the descriptors read, one that lies outside RAM too */
 } a72_answer;
 
-/* The physical address of `va` for an access of this kind at the present level is the value. A fault is at `va`. With
- * stage 1 off: `va` without its tag where TBI drops that, and from 2^44 on status 0x00. An access is then judged by
- * its first byte, and its bytes lie from there on. */
+/* The physical address of `va` for an access of this kind at the present level is the value. A fault is at `va`; the
+ * value stays. With stage 1 off: `va` without its tag where TBI drops that, and from 2^44 on status 0x00. An access is
+ * then judged by its first byte, and its bytes lie from there on. */
 uint64_t a72_translate(a72_core *core, uint64_t va, uint64_t kind, a72_answer *answer, uint64_t base,
                        const uint8_t *ram, size_t len);
 
-/* Where a data read of `va` would go, and where a fetch; A72_FAULT, with no status, where it would fault. */
+/* Where a data read of `va` would go, and where a fetch, is the value; A72_FAULT, with no status, where it would fault,
+ * and the value stays. */
 uint64_t a72_data_pa(a72_core *core, uint64_t va, a72_answer *answer, uint64_t base, const uint8_t *ram,
                      size_t len);
 uint64_t a72_fetch_pa(a72_core *core, uint64_t va, a72_answer *answer, uint64_t base, const uint8_t *ram,
@@ -325,7 +326,7 @@ uint64_t a72_load(a72_core *core, uint64_t va, uint64_t size, a72_answer *answer
 uint64_t a72_store(a72_core *core, uint64_t va, uint64_t size, uint64_t value, a72_answer *answer,
                    uint64_t base, uint8_t *ram, size_t len);
 
-/* The instruction at `va` is in the low 32 bits of the value. A fault is at `va`. */
+/* The instruction at `va` is in the low 32 bits of the value. A fault is at `va`; the value stays. */
 uint64_t a72_fetch(a72_core *core, uint64_t va, a72_answer *answer, uint64_t base, const uint8_t *ram,
                    size_t len);
 

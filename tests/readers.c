@@ -128,6 +128,26 @@ static void accesses(void) {
     MUST(f.present && f.page == PAGE << 12 && f.level == 1 && f.pa == PAGE << 12);
 }
 
+/* Of a fault the value is the address where the call says so; of the others it stays, and `va` is the address. */
+static void faults(void) {
+    const uint64_t outside = BASE + 0x9010;
+    a72_core *c = a72_copy(&other, core);
+    a72_answer ans = {7, 8};
+    MUST(a72_translate(c, UNMAPPED, A72_READ, &ans, BASE, ram, LEN) == A72_FAULT + 5 && is(ans, 7, 1));
+    MUST(a72_translate(c, UNMAPPED, A72_FETCH, &ans, BASE, ram, LEN) == A72_FAULT + 5 && is(ans, 7, 1));
+    MUST(a72_data_pa(c, UNMAPPED, &ans, BASE, ram, LEN) == A72_FAULT && is(ans, 7, 1));
+    MUST(a72_fetch_pa(c, UNMAPPED, &ans, BASE, ram, LEN) == A72_FAULT && is(ans, 7, 1));
+    MUST(a72_fetch(c, UNMAPPED, &ans, BASE, ram, LEN) == A72_FAULT + 5 && is(ans, 7, 1));
+    a72_general(c, 1, outside);
+    MUST(a72_system(c, A72_TLBI_VMALLE1, 31, &ans, BASE, ram, LEN) == A72_DONE && is(ans, 7, 0));
+    MUST(a72_fetch(c, outside, &ans, BASE, ram, LEN) == A72_FAULT + 0x10 && is(ans, 7, 3));
+    MUST(a72_load(c, UNMAPPED, 4, &ans, BASE, ram, LEN) == A72_FAULT + 5 && is(ans, UNMAPPED, 1));
+    ans.value = 7;
+    MUST(a72_store(c, UNMAPPED, 4, 0, &ans, BASE, ram, LEN) == A72_FAULT + 5 && is(ans, UNMAPPED, 1));
+    ans.value = 7;
+    MUST(a72_system(c, A72_DC_ZVA, 1, &ans, BASE, ram, LEN) == A72_FAULT + 0x10 && is(ans, outside & ~UINT64_C(63), 0));
+}
+
 /* A TLBI of the Inner Shareable forms drops the page here, and is pending for others: another core that receives it drops the
  * same. */
 static void invalidation(void) {
@@ -341,6 +361,7 @@ int main(void) {
     registers();
     refusals();
     accesses();
+    faults();
     invalidation();
     levels();
     reads();

@@ -20,7 +20,7 @@ use std::fmt::{self, Debug, Formatter};
 /// ```
 pub struct Core {
     pub(crate) held: Held,
-    report: Report,
+    pub(crate) report: Report,
 }
 
 /// A clone holds the same, and has done nothing yet.
@@ -72,8 +72,12 @@ impl Core {
         Core::of(Held::new())
     }
 
-    /// What the last operation reports, of those that take the core exclusively: 0 where it was refused, and of those
-    /// that translate nothing. It is no part of what the core holds: neither saved nor compared, and a clone has none.
+    /// What the last operation did. It read no descriptor where it was refused, undefined or unimplemented, or translates
+    /// nothing: register writes, settings of level, mark and general registers, exceptions taken, [`Self::receive`],
+    /// [`Self::take_broadcast`] and [`Self::restore`] too. It stays where a part is set by hand
+    /// ([`Self::set_pc`], [`Self::set_pstate`], [`Self::set_flags`], [`Self::set_generation`]), with
+    /// [`Self::translate_at_hand`] and [`Self::fetch_at_hand`], which give `None`, and with all that takes `&self`, a
+    /// census too. It is no part of what the core holds: neither saved nor compared, and a clone has none.
     #[inline]
     pub fn report(&self) -> Report {
         self.report

@@ -3,7 +3,7 @@ use crate::core::Core;
 use crate::raw;
 use crate::words::{broadcast, of_broadcast};
 use plain::registers::Key;
-use plain::{Broadcast, Counters, Entry, FetchHint, Flags, Hint, LevelCounters, Rights};
+use plain::{Broadcast, Counters, Entry, FetchHint, Flags, Hint, LevelCounters, Report, Rights};
 
 impl Core {
     /// A system register by its key ([`crate::registers`]); `None` for a key of no register kept.
@@ -92,11 +92,13 @@ impl Core {
 
     /// The same; afterwards nothing is pending.
     pub fn take_broadcast(&mut self) -> Option<Broadcast> {
+        self.report = Report::default();
         broadcast(raw::take_pending(&mut self.held))
     }
 
     /// Forget what another core's TLBI asks for. What is pending here stays.
     pub fn receive(&mut self, broadcast: Broadcast) {
+        self.report = Report::default();
         let [kind, value] = of_broadcast(broadcast);
         raw::receive(&mut self.held, kind, value);
     }

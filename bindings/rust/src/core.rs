@@ -67,8 +67,12 @@ impl Core {
         Core::of(cpu::Core::new())
     }
 
-    /// What the last operation did, of those that take the core exclusively: it read no descriptor where it was refused,
-    /// or translates nothing. It is no part of what the core holds: neither saved nor compared, and a clone has none.
+    /// What the last operation did. It read no descriptor where it was refused, undefined or unimplemented, or translates
+    /// nothing: register writes, settings of level, mark and general registers, exceptions taken, [`Self::receive`],
+    /// [`Self::take_broadcast`] and [`Self::restore`] too. It stays where a part is set by hand
+    /// ([`Self::set_pc`], [`Self::set_pstate`], [`Self::set_flags`], [`Self::set_generation`]), where
+    /// [`Self::translate_at_hand`] and [`Self::fetch_at_hand`] give `None`, and with all that takes `&self`, a census too.
+    /// It is no part of what the core holds: neither saved nor compared, and a clone has none.
     #[inline]
     pub fn report(&self) -> Report {
         let reads = self.answer.reads;

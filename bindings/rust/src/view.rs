@@ -256,12 +256,14 @@ impl Core {
     /// The same; afterwards nothing is pending.
     #[inline]
     pub fn take_broadcast(&mut self) -> Option<Broadcast> {
+        self.answer.reads = 0;
         self.core.tlb.broadcast.take().map(Broadcast::from)
     }
 
     /// Forget what another core's TLBI asks for. What is pending here stays.
     #[inline]
     pub fn receive(&mut self, broadcast: Broadcast) {
+        self.answer.reads = 0;
         self.core.tlb.invalidate(broadcast.into());
     }
 

@@ -1,7 +1,7 @@
 //! How many descriptors each operation read.
 mod common;
 
-use a72::{Access, Core, Exception, Level, Ram, SystemOperation, Width, registers};
+use a72::{Access, Broadcast, Core, Exception, Flags, Level, Ram, SystemOperation, Width, registers};
 use common::{BASE, bytes, core};
 
 fn reads(core: &Core) -> u64 {
@@ -129,7 +129,8 @@ fn zeroing_and_at() {
     assert_eq!(reads(&core), 3);
 }
 
-/// Refused, undefined or unimplemented; settings; an exception that is taken.
+/// Refused, undefined or unimplemented; settings; an exception that is taken; what other cores are told, and tell.
+/// Parts set by hand are no operations, nor is what is not at hand: the report stays.
 #[test]
 fn what_reads_nothing() {
     let mut bytes = bytes();
@@ -141,11 +142,28 @@ fn what_reads_nothing() {
         core.load(&ram, 0x1000, Width::Word).unwrap();
         assert_eq!(reads(core), 3);
     };
-    let mut nothing = |operation: &mut dyn FnMut(&mut Core, &mut Ram)| {
+    let mut after = |due, operation: &mut dyn FnMut(&mut Core, &mut Ram)| {
         walked(&mut core);
         operation(&mut core, &mut Ram::new(u64::MAX - 14, &mut few));
-        assert_eq!(reads(&core), 0);
+        assert_eq!(reads(&core), due);
     };
+    let flags = Flags {
+        nzcv: 1,
+        daif: 2,
+        sp_sel: true,
+    };
+    after(3, &mut |core, _| core.set_pc(0x1000));
+    after(3, &mut |core, _| core.set_pstate(0x3C5));
+    after(3, &mut |core, _| core.set_flags(flags));
+    after(3, &mut |core, _| core.set_generation(7));
+    after(3, &mut |core, _| {
+        assert_eq!(core.translate_at_hand(0x5000, Access::Read), None)
+    });
+    after(3, &mut |core, _| assert_eq!(core.fetch_at_hand(0x5000), None));
+    let mut nothing = |operation: &mut dyn FnMut(&mut Core, &mut Ram)| after(0, operation);
+    nothing(&mut |core, _| core.receive(Broadcast::All));
+    nothing(&mut |core, _| assert_eq!(core.take_broadcast(), None));
+    nothing(&mut |core, _| core.restore(&core.words()));
     nothing(&mut |core, past| assert!(core.translate(past, 0x1000, Access::Fetch).is_err()));
     nothing(&mut |core, past| assert!(core.data_pa(past, 0x2000).is_err()));
     nothing(&mut |core, past| assert!(core.fetch_pa(past, 0x2000).is_err()));
