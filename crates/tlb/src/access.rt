@@ -1,7 +1,7 @@
 // An access: what it wants, who makes it, what it needs, and its answer.
 ghost use Rattle.std.specs.Prelude.{◌≡◌, ◌≤◌};
 ghost use Rattle.walk.specs.Tag.{untagged};
-ghost use Rattle.tlb.specs.Access.{is_fetch, kind_at, kind_number, may_hint, tag_of};
+ghost use Rattle.tlb.specs.Access.{kind_at, kind_number, may_hint, tag_of};
 ghost use Rattle.tlb.specs.Access.{user_of, right_of, flat_answer, judged};
 
 use crate::entry::Entry;

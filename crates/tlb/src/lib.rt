@@ -3,7 +3,7 @@
 ghost use Rattle.std.specs.Prelude.{◌≡◌, ◌<◌};
 ghost use Rattle.tlb.specs.Entry.{slot_of};
 ghost use Rattle.tlb.specs.Tlb.{fresh, get_of, put_of, hintless, flush_of, drop_page_of, drop_asid_of};
-ghost use Rattle.tlb.specs.Tlb.{retag_of, invalidate_of, pending_after, broadcast_of};
+ghost use Rattle.tlb.specs.Tlb.{retag_of, invalidate_of, broadcast_of};
 
 use count::Tally;
 use entry::Entry;

@@ -1,5 +1,5 @@
 // What holds of every cache. Each function computes nothing: its contract is the theorem.
-ghost use Rattle.std.specs.Prelude.{◌≡◌, ℕ, ◌+◌, ◌%◌, ◌^◌, ◌≤◌, true, false, List, length, Option, Some, None, ◌≢◌};
+ghost use Rattle.std.specs.Prelude.{◌≡◌, ℕ, ◌+◌, ◌%◌, ◌^◌, ◌≤◌, true, false, List, length, Some, None, ◌≢◌};
 ghost use Rattle.tlb.specs.Count.{hit_counted, walk_counted};
 ghost use Rattle.tlb.specs.Counting.{How, how_counted, how_work, how_translated, how_fetched, rust_counted, sums};
 ghost use Rattle.tlb.specs.Lists.{Each};

@@ -14,7 +14,7 @@ use Rattle.tlb.specs.declared.Inval.TheVariants.{All, Page, Asid}
 use Rattle.cpu.specs.Bare.{Bare, fresh_bare, bare_of}
 use Rattle.cpu.specs.Core.{fresh_core}
 use Rattle.cpu.specs.declared.Core.{Core}
-use Rattle.history.specs.World.{Plain, LeavesEqual, covers, walk_answer, leaf_answer, page_walk, regime_now, page_now}
+use Rattle.history.specs.World.{Plain, LeavesEqual, covers, page_walk, regime_now, page_now}
 use Rattle.history.specs.World as World
 use Rattle.history.specs.History.{Event, steps, after_event, plain_run, answers}
 use Rattle.history.specs.History as History

@@ -14,10 +14,10 @@ use Rattle.cpu.specs.declared.{call.Call.Call}
 use Rattle.cpu.specs.declared.call.Call.TheVariants.{Load, Store, System, Register, Level, Mark, General}
 use Rattle.cpu.specs.declared.call.Call.TheVariants.{Abort, Census}
 use Rattle.history.specs.World.{Plain}
-use Rattle.history.specs.History.{Effect, carries, writes, Event, steps, after, after_event, plain_run, drops, drops_event}
+use Rattle.history.specs.History.{carries, Event, steps, after, plain_run, drops}
 use Rattle.history.specs.History as History
 use Rattle.history.proofs.Lists.{plain-append}
-use Rattle.history.specs.Calls.{Fed, run, lent_of, events_fed, events_run, Shown, FaithfulIn}
+use Rattle.history.specs.Calls.{run, lent_of, events_run, Shown}
 use Rattle.history.specs.Calls as Calls
 use Rattle.history.specs.Instance.{Ram, real}
 use Rattle.transparency.specs.Bare.{Ruling, allowed, op_in, operand_in, ruling_in, if_allowed, bare_step}

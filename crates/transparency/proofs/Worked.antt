@@ -58,7 +58,7 @@ use Rattle.transparency.specs.Claim.{SettledFor}
 use Rattle.transparency.proofs.Direct.{translate-after}
 use Rattle.transparency.proofs.Claim.{settled-in-theory, settled-in-claim}
 use Rattle.transparency.proofs.Steps.{Apart}
-use Rattle.transparency.specs.Worked.{table, lent, none, old, new, start, tidied, steps_of}
+use Rattle.transparency.specs.Worked.{none, old, new, start, tidied, steps_of}
 use Rattle.transparency.specs.Worked as Statement
 use Rattle.cpu.specs.Ends.{store_end, store_ram_end}
 use Rattle.cpu.specs.Place.{verdict_of}
