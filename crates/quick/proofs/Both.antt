@@ -1,6 +1,7 @@
 -- Split accesses whose two parts lie in RAM, on plain values, for `search`.
 use Rattle.std.specs.Prelude.{if◌then◌else◌, Some, None, Ok}
-use Rattle.std.proofs.Common.{◌≡◌, ℕ, zero, suc, ◌+◌, ◌-◌, ◌*◌, ◌/◌, ◌%◌, ◌^◌, ◌<◌, ◌≤◌, Bool, true, false, ◌&&◌, ltb, List, length, sym, refl, ap, ◌∙◌, mod-eq_of_lt, suc-add, pow-suc, zero-add, div-one, arith, take-append-drop, pow-add, shr-shr, ltb-false, ltb-true, le-ltb, lt-ltb, le-leb}
+use Rattle.std.proofs.Common.{◌≡◌, ℕ, zero, suc, ◌+◌, ◌-◌, ◌*◌, ◌/◌, ◌%◌, ◌^◌, ◌<◌, ◌≤◌, Bool, true, false, ◌&&◌, ltb, List, length}
+use Rattle.std.proofs.Common.{sym, refl, ap, ◌∙◌, mod-eq_of_lt, suc-add, pow-suc, zero-add, div-one, arith, take-append-drop, pow-add, shr-shr, ltb-false, ltb-true, le-ltb, lt-ltb, le-leb}
 use native.Mathlib.Nat.{pow-zero}
 use Rattle.word.specs.Bits.{wrap}
 use Rattle.word.specs.Ram.{within, written, stored, bytes_of}

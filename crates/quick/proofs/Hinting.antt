@@ -73,7 +73,8 @@ module _ (c : Core) (va base len s : ℕ) (es : s ≡ data_slot va Read) where
   -- of a read or a write, whose place is i
   placed : (i : ℕ) → at true i (va - va % 4096)
       ≡ (if plain c base len
-      then (if not c.privilege.unprivileged then (if eqb (hint i).key (va / 4096 * 4096 + c.privilege.level) then Some (on_page (hint i).pa va) else None) else None) else None)
+      then (if not c.privilege.unprivileged then (if eqb (hint i).key (va / 4096 * 4096 + c.privilege.level) then Some (on_page (hint i).pa va) else None) else None)
+      else None)
   placed i =
       let page : va - va % 4096 ≡ va / 4096 * 4096 = omega arith in
       ap (at true i) page ∙ asked c.privilege.level (hint i).key (va / 4096 * 4096) (on_page (hint i).pa va) fits c.privilege.unprivileged
