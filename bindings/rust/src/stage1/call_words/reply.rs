@@ -48,7 +48,8 @@ fn stopped(stop: Stop, work: Work, ans: &mut Report) -> u64 {
     }
 }
 
-/// The number of a store's answer, and in ans the address of its data abort and what was read.
+/// The number of a store's answer: 0, 65, 66, or 256 plus a fault's status; in `ans` the address of its data abort, and
+/// how many descriptors were read. Nothing of `ans` is written with 65 and 66.
 #[inline]
 pub fn stored(answer: Result<(), Stop>, work: Work, ans: &mut Report) -> u64 {
     match answer {
@@ -60,7 +61,9 @@ pub fn stored(answer: Result<(), Stop>, work: Work, ans: &mut Report) -> u64 {
     }
 }
 
-/// The number of a reply, and in ans its value or the address of its data abort, and what was read.
+/// The number of a reply: 0, that of the check that was missed, 65, 66, or 256 plus a fault's status; in `ans` its
+/// value, or the address of its data abort, and how many descriptors were read. With a number from 1 to 255 nothing of
+/// `ans` is written.
 #[inline]
 pub fn answer(reply: Reply, work: Work, ans: &mut Report) -> u64 {
     match reply {
@@ -113,7 +116,7 @@ fn stop_words(stop: Stop) -> [u64; 4] {
     }
 }
 
-/// The four words of a reply.
+/// The four words of a reply: what it is, then what it holds (a value, an address, a status, 1 for a write).
 #[inline]
 pub fn words(reply: Reply) -> [u64; 4] {
     match reply {
@@ -126,7 +129,7 @@ pub fn words(reply: Reply) -> [u64; 4] {
     }
 }
 
-/// The four words, and then what was read: 0 where nothing of a report is written.
+/// The four words, and then how many descriptors were read: 0 where nothing of a report is written.
 #[inline]
 pub fn step_words(reply: Reply, work: Work) -> [u64; 5] {
     let mut report = Report { value: 0, reads: 0 };

@@ -46,8 +46,8 @@ impl Core {
         }
     }
 
-    /// The number of the first check that the call misses, and then nothing changes; else the operation. The descriptors
-    /// that it reads are added to `work`.
+    /// The number of the first check that the call misses, and then nothing changes; else the operation. The
+    /// descriptors that it reads are added to `work`.
     #[inline]
     pub fn step(&mut self, base: u64, ram: &mut [u8], call: Call, work: &mut Work) -> Reply {
         match check::missed(self.privilege.level, base, ram.len() as u64, call) {

@@ -4,6 +4,7 @@
 /// The descriptors that walks read. A count wraps at 2^64.
 #[derive(Clone, Copy, Debug, PartialEq, Eq)]
 pub struct Work {
+    /// How many descriptors the walks read so far, those outside RAM too.
     pub reads: u64,
 }
 

@@ -14,8 +14,8 @@ pub enum Fresh {
 }
 
 impl Bank {
-    /// The fresh answer of `va`, tag and all, in the regime, over the RAM that starts at `base`; and how many descriptors
-    /// its walk read.
+    /// The fresh answer of `va`, tag and all, in the regime, over the RAM that starts at `base`; and how many
+    /// descriptors its walk read.
     #[inline(always)]
     pub fn fresh_with_reads(self, regime: Regime, va: u64, base: u64, ram: &[u8]) -> (Fresh, u8) {
         if self.stage1_on(regime) {

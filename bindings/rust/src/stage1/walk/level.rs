@@ -53,7 +53,9 @@ pub type Walked = Result<Leaf, u8>;
 /// A walk: its end, and how many descriptors it read.
 #[derive(Clone, Copy, Debug, PartialEq, Eq)]
 pub struct WalkResult {
+    /// The leaf that it ends in, or its fault status code.
     pub end: Walked,
+    /// How many descriptors it read, one that lies outside RAM too: 4 at most.
     pub reads: u8,
 }
 

@@ -40,8 +40,8 @@ fn visit_from(p: Params, first: WalkState, va: u64, base: u64, ram: &[u8], n: u8
 
 impl Bank {
     /// The table walk and permission check (DDI 0487, AArch64.TranslationTableWalk of ARMv8.0), over the RAM that
-    /// starts at `base`; `va` is already untagged and errors are fault status codes. Each descriptor that it reads counts,
-    /// one that lies outside RAM too.
+    /// starts at `base`; `va` is already untagged and errors are fault status codes. Each descriptor that it reads
+    /// counts, one that lies outside RAM too.
     #[inline(always)]
     pub fn walk(&self, regime: Regime, va: u64, base: u64, ram: &[u8]) -> WalkResult {
         let g = self.range(regime, va);
