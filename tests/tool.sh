@@ -75,10 +75,11 @@ trace_file/src/finding.rt:   changed    by no line since
 a72/src/stop.rt: a stale answer
 a72/src/stop.rt: a trace
 a72/src/stop.rt: no command
+a72/src/stop.rt: not all was looked at
 a72/src/stop.rt: the proved core lost a tone of the chord
 a72/src/stop.rt: out of memory
 UNSHOWN
-(cd crates && awk -v shown="$work/shown" -f ../tests/texts.awk manual_words/src/*.rt walk_report/src/*.rt census_report/src/*.rt counters_report/src/*.rt reads_report/src/*.rt chord/src/*.rt trace_file/src/*.rt \
+(cd crates && awk -v shown="$work/shown" -f ../tests/texts.awk manual_words/src/*.rt walk_report/src/*.rt census_report/src/*.rt counters_report/src/*.rt reads_report/src/*.rt ranges_report/src/*.rt chord/src/*.rt trace_file/src/*.rt \
     a72/src/*.rt trace_text/src/reason.rt) | grep -vxF -f "$work/unshown" >"$work/told"
 [ ! -s "$work/told" ] && pass || { fail 'texts of the tool that no sample shows' && sed 's/^/    /' "$work/told"; }
 
@@ -163,9 +164,9 @@ expects 0 '' 'tr 1 0 # rd=1 is no expectation'
 expects 0 '' 'tr 1 0 #= val 0 -- rd=1'
 expects 0 '' 'level 1 #= ok; rd=0'
 expects 1 '1:18: descriptors read: 0, not 1' 'tr 1 0 #= val 0; rd=1 -- flat reads none'
-expects 1 '1:10: descriptors read: 0, not 20' 'level 1#= rd=20'
+expects 1 '1:11: descriptors read: 0, not 20' 'level 1#= rd=20'
 [ "$(cat "$work/out")" = '1 level 1 => ok' ] && pass || fail 'the line whose reads are otherwise is shown'
-expects 1 '2:8: descriptors read: 0, not 3' "$(printf 'level 1\nzero #= rd=3')"
+expects 1 '2:9: descriptors read: 0, not 3' "$(printf 'level 1\nzero #= rd=3')"
 expects 0 '' "$(cat tests/crackle.trace)"
 sed 's/rd=3 -- over/rd=6 -- over/' tests/crackle.trace >"$work/bad"
 expects 1 "$(awk '/rd=6/ { print NR ":" index($0, "rd=6") }' "$work/bad"): descriptors read: 3, not 6" "$(cat "$work/bad")"
@@ -230,11 +231,11 @@ printf 'level 1\nworse\nlevel 2\n' | "$tool" run - >"$work/out" 2>"$work/err"
 head -c 3000000 /dev/urandom >"$work/dump"
 word=$(od -An -tx8 -j 2999992 -N 8 "$work/dump" | tr -d ' ' | sed 's/^0*//')
 printf 'ld 802dc6b8 8\n' >"$work/trace"
-[ "$("$tool" run --image "$work/dump@80000000" "$work/trace" --short)" = "1 ld 802dc6b8 8 => val $word" ] && pass || fail 'an image'
+[ "$("$tool" run --image "$work/dump@80000000" "$work/trace" --short)" = "1 ld 802dc6b8 8 => val $word rd=0" ] && pass || fail 'an image'
 printf 'window 80000000 10000000\nload %s 80001000\nld 802dd6b8 8\nld 80000ff8 8\n' "$work/dump" >"$work/trace"
-[ "$("$tool" run "$work/trace" --short)" = "$(printf '3 ld 802dd6b8 8 => val %s\n4 ld 80000ff8 8 => val 0' "$word")" ] && pass || fail 'a load into a window of 256 MiB'
+[ "$("$tool" run "$work/trace" --short)" = "$(printf '3 ld 802dd6b8 8 => val %s rd=0\n4 ld 80000ff8 8 => val 0 rd=0' "$word")" ] && pass || fail 'a load into a window of 256 MiB'
 { printf 'window 0 200000\n'; awk 'BEGIN { for (n = 0; n < 262144; n++) printf "poke %x %x\n", n * 8, n; for (n = 0; n < 20000; n++) printf "st %x 8 1\n", n * 8 }'; } >"$work/trace"
-[ "$(timeout 20 "$tool" run "$work/trace" --short | tail -n 1)" = '282145 st 270f8 8 1 => ok' ] && pass || fail '2 MiB of pokes and 20,000 stores'
+[ "$(timeout 20 "$tool" run "$work/trace" --short | tail -n 1)" = '282145 st 270f8 8 1 => ok rd=0' ] && pass || fail '2 MiB of pokes and 20,000 stores'
 [ "$(timeout 20 "$tool" audit "$work/trace")" = 'no stale answer in 20000 accesses' ] && pass || fail 'an audit of 20,000 stores'
 
 # The census: its rows add up to the pages, and the cells of its map are as many as it says.
