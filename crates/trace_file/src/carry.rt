@@ -17,17 +17,15 @@ use trace_text::line::{Line, Operation, Setup};
 pub struct Numbered {
     pub number: u64,
     pub line: Line,
-    pub expected: Option<Expected>,
+    pub expected: Expected,
 }
 
 impl Numbered {
     // What was read is what the line expects.
     fn hold(&self, reads: u64) -> Result<(), Trouble> {
-        match self.expected {
-            Some(expected) if expected.reads != reads => {
-                Err(Trouble::Reads(self.number, expected, reads))
-            }
-            _ => Ok(()),
+        match self.expected.broken(reads) {
+            Some(said) => Err(Trouble::Reads(self.number, said, reads)),
+            None => Ok(()),
         }
     }
 }

@@ -2,7 +2,7 @@
 use std::alloc::{AllocError, Global};
 use std::io;
 use std::io::Write;
-use trace_text::expected::Expected;
+use trace_text::expected::Said;
 use trace_text::reason::Refusal;
 
 /// What keeps a trace from being carried out.
@@ -14,8 +14,8 @@ pub enum Trouble {
     Output(io::Error),
     /// the number of the line that is refused
     Line(u64, Refusal),
-    /// the number of a line that expects other reads, what it expects, and what was read
-    Reads(u64, Expected, u64),
+    /// the number of a line that expects other reads, the word that says so, and what was read
+    Reads(u64, Said, u64),
     /// what the system says of a file that a line loads: the line, the column of its path
     Load(u64, usize, io::Error),
     /// what the system says of the dump before the first line
@@ -53,10 +53,18 @@ pub fn show<W: Write>(out: &mut W, alloc: Global, path: &str, trouble: Trouble) 
         Trouble::Line(line, Refusal { column, reason }) => {
             writeln!(out, "a72: {path}:{line}:{column}: {reason}")
         }
-        Trouble::Reads(line, Expected { reads, column }, is) => writeln!(
-            out,
-            "a72: {path}:{line}:{column}: descriptors read: {is:x}, not {reads:x}"
-        ),
+        Trouble::Reads(line, said, is) => {
+            let Said {
+                reads,
+                zeros,
+                column,
+            } = said;
+            write!(
+                out,
+                "a72: {path}:{line}:{column}: descriptors read: {is:x}, not "
+            )?;
+            writeln!(out, "{:0>zeros$}{reads:x}", "")
+        }
         Trouble::Load(line, column, error) => {
             let place = format!(in alloc; "{path}:{line}:{column}")?;
             system(out, alloc, place.as_str(), error)

@@ -39,7 +39,7 @@ fn next_line<B: BufRead>(reader: &mut B, line: &mut Vec<u8>) -> io::Result<bool>
 }
 
 // What a line's bytes mean, if they mean anything.
-fn meaning(bytes: &[u8]) -> Result<Option<(Line, Option<Expected>)>, Refusal> {
+fn meaning(bytes: &[u8]) -> Result<Option<(Line, Expected)>, Refusal> {
     if LONGEST < bytes.len() {
         return Err(Refusal {
             column: 1,
