@@ -159,9 +159,9 @@ expects() {
 }
 
 expects 0 '' 'tr 1 0 #= val 0; rd=0 -- flat'
-expects 1 '1:23: descriptors read: 0, not 000' 'tr 1 0 #= val 0; h=0 rd=000'
+expects 1 '1:22: descriptors read: 0, not 000' 'tr 1 0 #= val 0; h=0 rd=000'
 expects 1 '1:17: descriptors read: 0, not 7' 'tr 1 0 #= val 0;rd=7'
-expects 1 '1:15: descriptors read: 0, not 5' 'tr 1 0 #= rd=0 rd=5'
+expects 1 '1:16: descriptors read: 0, not 5' 'tr 1 0 #= rd=0 rd=5'
 expects 0 '' 'tr 1 0 # rd=1 is no expectation'
 expects 0 '' 'tr 1 0 #= val 0 -- rd=1'
 expects 0 '' 'level 1 #= ok; rd=0'
