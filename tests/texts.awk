@@ -9,7 +9,7 @@ function judge(literal,    n, k, parts) {
     for (k = 1; k <= n; k++) if (parts[k] ~ /[A-Za-z]/ && !index(all, parts[k])) print FILENAME ": " parts[k]
 }
 FNR == 1 { inside = 0 }
-!inside && /^ *(\/\/|ghost use )/ { next }
+!inside && /^ *(\/\/|ghost use |#\[serde)/ { next }
 {
     rest = $0
     while ((at = index(rest, "\"")) > 0) {

@@ -69,13 +69,13 @@ chord/src/note.rt: Eb
 chord/src/note.rt: G#
 chord/src/story.rt: THE CHORD LOST A TONE
 trace_file/src/report.rt:  (os error 
-trace_file/src/report.rt: : more than 1000000000 lines
+trace_file/src/report.rt: more than 1000000000 lines
 trace_file/src/finding.rt: COVERED, AND KEPT, AT 
 trace_file/src/finding.rt:   changed    by no line since
 a72/src/stop.rt: a stale answer
+a72/src/stop.rt: not all was looked at
 a72/src/stop.rt: a trace
 a72/src/stop.rt: no command
-a72/src/stop.rt: not all was looked at
 a72/src/stop.rt: the proved core lost a tone of the chord
 a72/src/stop.rt: out of memory
 UNSHOWN
@@ -552,6 +552,8 @@ same "$work/odd" 'flags, statuses and immediates at their ends'
 "$tool" run "$work/empty" >"$work/out" 2>&1 && [ ! -s "$work/out" ] && pass || fail 'an empty trace'
 
 tests/ranges.sh && pass || fail 'tests/ranges.sh'
+
+tests/json.sh && pass || fail 'tests/json.sh'
 
 echo "$good as expected, $bad otherwise"
 [ "$bad" -eq 0 ]

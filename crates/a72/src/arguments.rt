@@ -23,6 +23,7 @@ pub struct Options<'a> {
     pub full: bool,
     pub all: bool,
     pub svg: bool,
+    pub json: bool,
     pub help: bool,
     pub version: bool,
 }
@@ -121,6 +122,9 @@ impl Options<'_> {
         if self.image.is_some() && matches!(command, "chord" | "help") {
             return Some("--image is an option of the commands that take a TRACE");
         }
+        if self.svg && self.json {
+            return Some("census wants --svg or --json, and not both");
+        }
         (self.short && self.words).then_some("run wants --short or --words, and not both")
     }
 }
@@ -151,6 +155,7 @@ impl<'a> Arguments<'a> {
                 "--full" => options.full = true,
                 "--all" => options.all = true,
                 "--svg" => options.svg = true,
+                "--json" => options.json = true,
                 "-h" | "--help" => options.help = true,
                 "--version" => options.version = true,
                 _ if word.starts_with("--") => return Err(Stop::NoSuchOption),

@@ -1,20 +1,40 @@
 //! The commands.
-use crate::arguments::Arguments;
+use crate::arguments::{Arguments, Options};
 use crate::stop::{Stop, Wrong};
 use crate::{arguments, ranges, usage};
 use census_report::report::{Census, Form};
+use chord::story::Story;
 use core_calls::settings;
-use counters_report::report as counters;
-use reads_report::report as pages;
+use counters_report::report::Counters;
+use reads_report::report::Report;
+use serde::Serialize;
 use std::alloc::Global;
+use std::fmt::Display;
+use std::io;
 use std::io::{Input, Write};
 use std::rt::Files;
 use tlb::access::Kind;
 use trace_core::memory;
 use trace_file::auditor::Auditor;
+use trace_file::cache::Cache;
 use trace_file::carry::{Audited, Counted, Shown, Silent};
-use trace_file::{cache, run, show};
+use trace_file::finding::Audit;
+use trace_file::{run, show};
 use walk_report::explain;
+
+// A report, as text or as JSON.
+pub(crate) fn report<W: Write, T: Display + Serialize>(
+    out: &mut W,
+    alloc: Global,
+    json: bool,
+    report: &T,
+) -> io::Result<()> {
+    if json {
+        json_text::line(out, alloc, report)
+    } else {
+        write!(out, "{report}")
+    }
+}
 
 // `a72 run`.
 fn run<R: Files + Input + AllocGlobal, W: Write>(
@@ -34,10 +54,16 @@ fn run<R: Files + Input + AllocGlobal, W: Write>(
         show::Form::Whole
     };
     let trace = arguments.trace(path)?;
-    let mut shown = Shown { out, form };
+    let json = arguments.options.json;
+    let mut shown = Shown {
+        out,
+        form,
+        json: json.then_some(rt.alloc()),
+    };
     let machine = run::run(rt, trace, &mut shown)?;
     if arguments.options.full {
-        cache::show(shown.out, &machine.core)?;
+        let cache = Cache::new(rt.alloc(), &machine.core)?;
+        report(shown.out, rt.alloc(), json, &cache)?;
     }
     Ok(())
 }
@@ -53,29 +79,19 @@ fn audit<R: Files + Input + AllocGlobal, W: Write>(
         return Err(Stop::Usage("audit wants one TRACE"));
     };
     let trace = arguments.trace(path)?;
-    let all = arguments.options.all;
+    let Options { all, json, .. } = arguments.options;
     let mut audited = Audited {
         out,
         auditor: Auditor::new(rt.alloc())?,
         all,
+        at_once: !json,
     };
     run::run(rt, trace, &mut audited)?;
-    let Auditor {
-        accesses,
-        stale,
-        ..
-    } = audited.auditor;
+    let audit = Audit::new(audited.auditor, all);
     let out = audited.out;
-    match stale {
-        0 => {
-            writeln!(out, "no stale answer in {accesses} accesses")?;
-            return Ok(());
-        }
-        _ if all => writeln!(out, "{stale} stale in {accesses} accesses")?,
-        _ => writeln!(
-            out,
-            "stale at access {accesses}; what comes after it was not carried out (--all: each)"
-        )?,
+    report(out, rt.alloc(), json, &audit)?;
+    if audit.is_clean() {
+        return Ok(());
     }
     out.flush()?;
     Err(Stop::Stale)
@@ -93,7 +109,8 @@ fn count<R: Files + Input + AllocGlobal, W: Write>(
     };
     let mut counted = Counted::new(rt.alloc());
     let machine = run::run(rt, arguments.trace(path)?, &mut counted)?;
-    counters::show(out, &machine.core.tlb, &counted.pages.by_level())?;
+    let counters = Counters::new(&machine.core.tlb, &counted.pages.by_level());
+    report(out, rt.alloc(), arguments.options.json, &counters)?;
     Ok(())
 }
 
@@ -113,7 +130,8 @@ fn reads<R: Files + Input + AllocGlobal, W: Write>(
     let rows = arguments::rows(rest.first())?;
     let mut counted = Counted::new(rt.alloc());
     run::run(rt, arguments.trace(path)?, &mut counted)?;
-    pages::show(out, &mut counted.pages, rows)?;
+    let pages = Report::new(rt.alloc(), &mut counted.pages, rows)?;
+    report(out, rt.alloc(), arguments.options.json, &pages)?;
     Ok(())
 }
 
@@ -155,8 +173,9 @@ fn walk<R: Files + Input + AllocGlobal, W: Write>(
         settings::level(&mut machine.core, level);
     }
     let ram = machine.ram.as_mut_slice();
-    let same = explain::explain(out, &mut machine.core, machine.base, ram, kind, va)?;
-    if same {
+    let explained = explain::explain(&mut machine.core, machine.base, ram, kind, va);
+    report(out, rt.alloc(), arguments.options.json, &explained)?;
+    if explained.agree {
         return Ok(());
     }
     out.flush()?;
@@ -173,6 +192,8 @@ fn census<R: Files + Input + AllocGlobal, W: Write>(
 ) -> Result<(), Stop> {
     let form = if arguments.options.svg {
         Form::Picture
+    } else if arguments.options.json {
+        Form::Json
     } else if terminal {
         Form::Coloured
     } else {
@@ -200,15 +221,29 @@ fn census<R: Files + Input + AllocGlobal, W: Write>(
 }
 
 // `a72 chord`.
-fn chord<W: Write>(alloc: Global, out: &mut W, words: &[&str]) -> Result<(), Stop> {
+fn chord<W: Write>(alloc: Global, out: &mut W, json: bool, words: &[&str]) -> Result<(), Stop> {
     if !words.is_empty() {
         return Err(Stop::Usage("chord wants nothing more"));
     }
-    if chord::story::tell(out, memory::zeros(alloc)?)? {
+    let story = Story::new(alloc, memory::zeros(alloc)?)?;
+    report(out, alloc, json, &story)?;
+    if story.whole {
         return Ok(());
     }
     out.flush()?;
     Err(Stop::LostTone)
+}
+
+/// `a72 help`.
+pub fn help<W: Write>(alloc: Global, out: &mut W, json: bool) -> Result<(), Stop> {
+    report(out, alloc, json, &usage::HELP)?;
+    Ok(())
+}
+
+/// `a72 --version`.
+pub fn version<W: Write>(alloc: Global, out: &mut W, json: bool) -> Result<(), Stop> {
+    report(out, alloc, json, &usage::VERSION)?;
+    Ok(())
 }
 
 /// The command that a call's first word names.
@@ -235,11 +270,8 @@ pub fn carry_out<R: Files + Input + AllocGlobal, W: Write>(
         "walk" => walk(rt, out, arguments, rest),
         "census" => census(rt, out, arguments, rest, terminal),
         "ranges" => ranges::carry_out(rt, out, arguments, rest),
-        "chord" => chord(rt.alloc(), out, rest),
-        "help" => {
-            usage::help(out)?;
-            Ok(())
-        }
+        "chord" => chord(rt.alloc(), out, arguments.options.json, rest),
+        "help" => help(rt.alloc(), out, arguments.options.json),
         _ => Err(Stop::NoSuchCommand),
     }
 }

@@ -14,9 +14,6 @@ use std::process::ExitCode;
 use std::rt::Files;
 use stop::Stop;
 
-// As in bindings/rust/Cargo.toml.
-const VERSION: &str = "0.1.0";
-
 // A call's command.
 fn command<R: Files + Input + AllocGlobal, W: Write>(
     rt: &R,
@@ -26,9 +23,9 @@ fn command<R: Files + Input + AllocGlobal, W: Write>(
 ) -> Result<(), Stop> {
     let arguments = Arguments::new(words, Vec::new(rt.alloc()))?;
     if arguments.options.version {
-        writeln!(out, "a72 {VERSION}")?;
+        commands::version(rt.alloc(), out, arguments.options.json)?;
     } else if arguments.options.help {
-        usage::help(out)?;
+        commands::help(rt.alloc(), out, arguments.options.json)?;
     } else {
         commands::carry_out(rt, out, &arguments, terminal)?;
     }

@@ -1,10 +1,10 @@
 //! `a72 ranges`.
-use crate::arguments;
 use crate::arguments::Arguments;
 use crate::stop::Stop;
+use crate::{arguments, commands};
 use census_report::report::Refused;
 use core_calls::settings;
-use ranges_report::report;
+use ranges_report::report::Ranges;
 use std::io::{Input, Write};
 use std::rt::Files;
 use trace_file::carry::Silent;
@@ -51,16 +51,9 @@ pub(crate) fn carry_out<R: Files + Input + AllocGlobal, W: Write>(
         return Err(Stop::Census(Refused::Level));
     }
     let ram = machine.ram.as_slice();
-    let all = report::show(
-        out,
-        rt.alloc(),
-        &machine.core,
-        machine.base,
-        ram,
-        first,
-        last,
-    )?;
-    if all {
+    let ranges = Ranges::new(rt.alloc(), &machine.core, machine.base, ram, first, last)?;
+    commands::report(out, rt.alloc(), arguments.options.json, &ranges)?;
+    if ranges.is_all() {
         return Ok(());
     }
     out.flush()?;

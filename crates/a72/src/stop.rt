@@ -11,7 +11,7 @@ use std::io::Write;
 use std::process::ExitCode;
 use thiserror::Error;
 use trace_file::report;
-use trace_file::report::Trouble;
+use trace_file::report::{Message, Trouble};
 
 /// An argument that is no such thing.
 #[derive(Clone, Copy, Debug, Error)]
@@ -58,7 +58,7 @@ pub enum Stop {
     #[error("the proved core lost a tone of the chord")]
     LostTone,
     /// standard output takes no more
-    #[error("write: {0}")]
+    #[error("{0}")]
     Output(#[from] io::Error),
     #[error("out of memory")]
     Memory(#[from] AllocError),
@@ -98,6 +98,11 @@ fn word_at(words: &[String], place: usize) -> &str {
     ""
 }
 
+// Whether a call asks for JSON.
+fn is_json(words: &[String]) -> bool {
+    words.iter().any(|word| word.as_str() == "--json")
+}
+
 // The first word that names no option.
 fn unknown_option(words: &[String]) -> &str {
     let known = |word: &str| {
@@ -109,6 +114,7 @@ fn unknown_option(words: &[String]) -> &str {
                 | "--full"
                 | "--all"
                 | "--svg"
+                | "--json"
                 | "--help"
                 | "--version"
         )
@@ -118,30 +124,44 @@ fn unknown_option(words: &[String]) -> &str {
     unknown.map_or("", |word| word.as_str())
 }
 
-/// The message on the call of these words.
-pub fn show<W: Write>(out: &mut W, alloc: Global, words: &[String], stop: Stop) -> io::Result<()> {
-    match stop {
-        Stop::NoCommand => usage::usage(out),
+// The message on the call of these words.
+fn message(alloc: Global, words: &[String], stop: Stop) -> Result<Message<'_>, AllocError> {
+    let reason = match stop {
         Stop::NoSuchCommand => {
             let word = word_at(words, 0);
             let nearest = usage::nearest(alloc, word)?;
-            writeln!(
-                out,
-                "a72: no such command: {word} (the nearest is {nearest})"
-            )?;
-            usage::usage(out)
+            format!(in alloc; "no such command: {word} (the nearest is {nearest})")?
         }
         Stop::NoSuchOption => {
-            writeln!(out, "a72: no such option: {}", unknown_option(words))?;
+            let word = unknown_option(words);
+            format!(in alloc; "no such option: {word}")?
+        }
+        Stop::Trace(trouble) => return report::message_on(alloc, word_at(words, 1), trouble),
+        Stop::Output(error) => {
+            let reason = report::system(alloc, error)?;
+            return Ok(Message::new(Some("write"), reason));
+        }
+        _ => format!(in alloc; "{stop}")?,
+    };
+    Ok(Message::new(None, reason))
+}
+
+/// Says why the call of these words is not carried out: as JSON where it asks for that, else in words, and the usage
+/// after a wrong call.
+pub fn show<W: Write>(out: &mut W, alloc: Global, words: &[String], stop: Stop) -> io::Result<()> {
+    if matches!(stop, Stop::Stale | Stop::Unfinished) {
+        return Ok(());
+    }
+    let message = message(alloc, words, stop)?;
+    if is_json(words) {
+        return json_text::line(out, alloc, &message);
+    }
+    match stop {
+        Stop::NoCommand => usage::usage(out),
+        Stop::NoSuchCommand | Stop::NoSuchOption | Stop::Usage(_) => {
+            write!(out, "{message}")?;
             usage::usage(out)
         }
-        Stop::Usage(why) => {
-            writeln!(out, "a72: {why}")?;
-            usage::usage(out)
-        }
-        Stop::Trace(trouble) => report::show(out, alloc, word_at(words, 1), trouble),
-        Stop::Output(error) => report::system(out, alloc, "write", error),
-        Stop::Stale | Stop::Unfinished => Ok(()),
-        _ => writeln!(out, "a72: {stop}"),
+        _ => write!(out, "{message}"),
     }
 }

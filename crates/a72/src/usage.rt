@@ -1,7 +1,8 @@
 //! What the tool says of itself.
+use serde::Serialize;
 use std::alloc::{AllocError, Global};
-use std::io;
 use std::io::Write;
+use std::{fmt, io};
 use strsim::levenshtein;
 
 const COMMANDS: [&str; 9] = [
@@ -38,7 +39,8 @@ reg, level, mark, x, abort, census; fresh, window, zero, poke, load; leaves l-..
 hexadecimal without 0x; # starts a comment. Names stand for numbers as an assembler has them: reg TCR_EL1 19,
 tlbi vae1is x1, at s1e1r x0, dc zva x2. A file with a bad line gets a message `a72: FILE:LINE:COLUMN: reason`
 on standard error, and nothing else happens. --image FILE@ADDRESS: the bytes of FILE, a raw dump, are the
-window before the first line, from the physical ADDRESS on.
+window before the first line, from the physical ADDRESS on. --json: what a command says as one JSON document, of run
+as one for each operation; what keeps a call from being carried out too, on standard error.
 ";
 
 /// Whether a word is the name of a command.
@@ -51,29 +53,61 @@ pub fn is_command(word: &str) -> bool {
     false
 }
 
-/// The calls.
-pub fn usage<W: Write>(out: &mut W) -> io::Result<()> {
-    writeln!(out, "usage: a72 run TRACE [--short|--words] [--full]")?;
-    writeln!(out, "       a72 reads TRACE [N]")?;
-    writeln!(out, "       a72 audit TRACE [--all]")?;
-    writeln!(
-        out,
-        "       a72 walk TRACE ADDRESS [read|write|fetch] [LEVEL]"
-    )?;
-    writeln!(out, "       a72 counters TRACE")?;
-    writeln!(out, "       a72 census TRACE FIRST PAGES [LEVEL] [--svg]")?;
-    writeln!(out, "       a72 ranges TRACE [FIRST LAST] [LEVEL]")?;
-    writeln!(out, "       a72 chord")?;
-    writeln!(
-        out,
-        "       with a TRACE: [--image FILE@ADDRESS]; anywhere: -h, --help, --version"
-    )
+// The calls.
+const CALLS: [&str; 9] = [
+    "a72 run TRACE [--short|--words] [--full]",
+    "a72 reads TRACE [N]",
+    "a72 audit TRACE [--all]",
+    "a72 walk TRACE ADDRESS [read|write|fetch] [LEVEL]",
+    "a72 counters TRACE",
+    "a72 census TRACE FIRST PAGES [LEVEL] [--svg]",
+    "a72 ranges TRACE [FIRST LAST] [LEVEL]",
+    "a72 chord",
+    "with a TRACE: [--image FILE@ADDRESS]; anywhere: --json, -h, --help, --version",
+];
+
+/// The version, which is that of bindings/rust/Cargo.toml.
+pub const VERSION: Version = Version { version: "0.1.0" };
+
+/// What `a72 help` says.
+pub const HELP: Help = Help {
+    calls: CALLS,
+    details: DETAILS,
+};
+
+/// What `a72 --version` says.
+#[derive(Clone, Copy, Serialize)]
+pub struct Version {
+    version: &'static str,
 }
 
 /// The calls, and what each command does.
-pub fn help<W: Write>(out: &mut W) -> io::Result<()> {
-    usage(out)?;
-    write!(out, "{DETAILS}")
+#[derive(Clone, Copy, Serialize)]
+pub struct Help {
+    calls: [&'static str; 9],
+    details: &'static str,
+}
+
+impl fmt::Display for Version {
+    fn fmt<W: fmt::Write>(&self, f: &mut fmt::Formatter<W>) -> fmt::Result {
+        writeln!(f, "a72 {}", self.version)
+    }
+}
+
+impl fmt::Display for Help {
+    fn fmt<W: fmt::Write>(&self, f: &mut fmt::Formatter<W>) -> fmt::Result {
+        for (n, call) in self.calls.iter().enumerate() {
+            let before = if n == 0 { "usage:" } else { "      " };
+            writeln!(f, "{before} {call}")?;
+        }
+        f.write_str(self.details)
+    }
+}
+
+/// The calls.
+pub fn usage<W: Write>(out: &mut W) -> io::Result<()> {
+    let details = "";
+    write!(out, "{}", Help { details, ..HELP })
 }
 
 /// The command whose name is nearest to a word.

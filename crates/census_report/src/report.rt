@@ -1,6 +1,7 @@
 // A census of a core and its window, shown as a table and a map, or as a picture.
 use crate::grid::{Grid, Map};
 use crate::letter::{End, Letter};
+use crate::text::Facts;
 use crate::{picture, text};
 use core_calls::inspect;
 use cpu::Core;
@@ -34,6 +35,7 @@ pub enum Form {
     Plain,
     Coloured,
     Picture,
+    Json,
 }
 
 /// The counts of a range's pages by how they end, the map of its cells, and the level that it was made at.
@@ -94,6 +96,7 @@ impl Census {
             Form::Plain => text::show(out, alloc, self, false),
             Form::Coloured => text::show(out, alloc, self, true),
             Form::Picture => picture::show(out, self),
+            Form::Json => json_text::line(out, alloc, &Facts::new(alloc, self)?),
         }
     }
 }

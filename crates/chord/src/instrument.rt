@@ -3,6 +3,7 @@ use crate::note::Note;
 use call_words::reply::Report;
 use core_calls::{memory, settings, step};
 use cpu::Core;
+use serde::Serialize;
 use std::fmt;
 use std::ops::AddAssign;
 use tlb::access::Kind;
@@ -30,7 +31,8 @@ const TCR: u64 = 0x8080_0019;
 const PAGE: u64 = 0x0060_0000_0000_0703;
 
 /// What the keys are played on.
-#[derive(Clone, Copy)]
+#[derive(Clone, Copy, Serialize)]
+#[serde(rename_all = "snake_case")]
 pub enum System {
     /// The firmware invalidates a page at note-off, and the core does it.
     Proved,
@@ -52,8 +54,9 @@ impl System {
 }
 
 /// How many held voices were read, and how many of them gave another note than their own.
-#[derive(Clone, Copy, Default)]
+#[derive(Clone, Copy, Default, Serialize)]
 pub struct Heard {
+    #[serde(rename = "voices_read")]
     pub reads: u64,
     pub lost: u64,
 }

@@ -1,4 +1,5 @@
 // The names of notes.
+use serde::{Described, Serialize, Serializer};
 use std::fmt;
 
 const PITCHES: [&str; 12] = [
@@ -19,15 +20,47 @@ impl Note {
     }
 }
 
-impl fmt::Display for Note {
-    fn fmt<W: fmt::Write>(&self, f: &mut fmt::Formatter<W>) -> fmt::Result {
+/// A note's name alone.
+#[derive(Clone, Copy)]
+pub struct Name(pub Note);
+
+impl Note {
+    // The pitch and the octave of a note that has a name.
+    fn pitch(self) -> Option<(&'static str, u64)> {
         let number = self.0;
         if number < 24 || 119 < number {
-            return f.write_str("-   ");
+            return None;
         }
-        let pitch = PITCHES[(number % 12) as usize];
-        let octave = number / 12 - 1;
-        let width = 4usize.saturating_sub(pitch.len());
-        write!(f, "{pitch}{octave:<width$}")
+        Some((PITCHES[(number % 12) as usize], number / 12 - 1))
+    }
+}
+
+impl fmt::Display for Name {
+    fn fmt<W: fmt::Write>(&self, f: &mut fmt::Formatter<W>) -> fmt::Result {
+        match self.0.pitch() {
+            None => f.write_str("-"),
+            Some((pitch, octave)) => write!(f, "{pitch}{octave}"),
+        }
+    }
+}
+
+impl Described for Note {}
+
+impl Serialize for Note {
+    fn serialize<S: Serializer>(&self, out: &mut S) -> Result<(), S::Error> {
+        out.collect_str(&Name(*self))
+    }
+}
+
+// In four columns.
+impl fmt::Display for Note {
+    fn fmt<W: fmt::Write>(&self, f: &mut fmt::Formatter<W>) -> fmt::Result {
+        match self.pitch() {
+            None => f.write_str("-   "),
+            Some((pitch, octave)) => {
+                let width = 4usize.saturating_sub(pitch.len());
+                write!(f, "{pitch}{octave:<width$}")
+            }
+        }
     }
 }

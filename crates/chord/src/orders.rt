@@ -2,8 +2,9 @@
 // is pressed, then let go, then pressed again.
 use crate::instrument::{Heard, Instrument, System};
 use crate::note::Note;
-use std::io::Write;
-use std::{array, io};
+use serde::Serialize;
+use std::alloc::{AllocError, Global};
+use std::{array, fmt};
 
 // A key: its voice, its note, and how often it comes in an order.
 #[derive(Clone, Copy)]
@@ -37,17 +38,45 @@ impl Order {
     }
 }
 
-/// What was heard in every order.
-#[derive(Clone, Copy, Default)]
+/// What was heard in every order on a system.
+#[derive(Clone, Copy, Serialize)]
 pub struct Tally {
+    system: System,
     pub orders: u64,
+    #[serde(flatten)]
     pub heard: Heard,
     /// The orders in which a note was lost, and the first of them.
     pub wrong: u64,
+    #[serde(skip)]
     pub first: Option<Order>,
 }
 
+/// What a key gives that is held, and what it should.
+#[derive(Clone, Copy, Serialize)]
+struct Sounding {
+    note: Note,
+    heard: Note,
+}
+
+/// An event of an order: a key is pressed or let go, and what each key gives then, if it is held.
+#[derive(Clone, Copy, Serialize)]
+pub struct Event {
+    key: Note,
+    on: bool,
+    keys: [Option<Sounding>; 4],
+}
+
 impl Tally {
+    fn new(system: System) -> Self {
+        Tally {
+            system,
+            orders: 0,
+            heard: Heard::default(),
+            wrong: 0,
+            first: None,
+        }
+    }
+
     fn add(&mut self, order: Order, heard: Heard) {
         self.orders = self.orders.wrapping_add(1);
         self.heard += heard;
@@ -55,6 +84,30 @@ impl Tally {
             self.wrong = self.wrong.wrapping_add(1);
             self.first = self.first.or(Some(order));
         }
+    }
+}
+
+impl fmt::Display for Tally {
+    fn fmt<W: fmt::Write>(&self, f: &mut fmt::Formatter<W>) -> fmt::Result {
+        let name = self.system.name();
+        writeln!(f, "   {name:<22} {} orders, {}", self.orders, self.heard)
+    }
+}
+
+impl fmt::Display for Event {
+    fn fmt<W: fmt::Write>(&self, f: &mut fmt::Formatter<W>) -> fmt::Result {
+        let event = if self.on { "on " } else { "off" };
+        write!(f, "     {}{event}", self.key)?;
+        for key in self.keys {
+            match key {
+                None => write!(f, "   .              ")?,
+                Some(Sounding { note, heard }) => {
+                    let end = if heard == note { "    " } else { "LOST" };
+                    write!(f, "   {note}-> {heard}{end}")?;
+                }
+            }
+        }
+        writeln!(f)
     }
 }
 
@@ -71,46 +124,45 @@ impl Instrument {
     }
 
     /// Plays every order, and tells what was heard.
-    pub fn play_all<W: Write>(&mut self, out: &mut W, system: System) -> io::Result<Tally> {
-        let mut tally = Tally::default();
+    pub fn play_all(&mut self, system: System) -> Tally {
+        let mut tally = Tally::new(system);
         for order in 0..NUMBERS {
             let order = Order(order);
             if order.is_whole() {
                 tally.add(order, self.play(system, order));
             }
         }
-        let Tally { orders, heard, .. } = tally;
-        writeln!(out, "   {:<22} {orders} orders, {heard}", system.name())?;
-        Ok(tally)
+        tally
     }
 
-    // What a key gives, where it is held, and what it should.
-    fn show_key<W: Write>(&mut self, out: &mut W, voice: usize) -> io::Result<()> {
-        let Some(held) = self.held(voice) else {
-            return write!(out, "   .              ");
-        };
+    // What a voice gives, if it is held.
+    fn sounding(&mut self, voice: usize) -> Option<Sounding> {
+        let note = self.held(voice)?.note;
         let heard = self.hear(voice);
-        let end = if heard == held.note { "    " } else { "LOST" };
-        write!(out, "   {}-> {heard}{end}", held.note)
+        Some(Sounding { note, heard })
     }
 
-    /// Shows one order, event by event.
-    pub fn show_order<W: Write>(
+    /// One order, event by event.
+    pub fn events(
         &mut self,
-        out: &mut W,
+        alloc: Global,
         system: System,
         order: Order,
-    ) -> io::Result<()> {
+    ) -> Result<Vec<Event>, AllocError> {
         self.start(system);
-        for Key(voice, note, _) in order.keys() {
-            self.touch(voice, note);
-            let event = self.held(voice).map_or("off", |_| "on ");
-            write!(out, "     {note}{event}")?;
-            for Key(other, _, _) in KEYS {
-                self.show_key(out, other)?;
+        let mut events: Vec<Event> = Vec::new(alloc);
+        for Key(voice, key, _) in order.keys() {
+            self.touch(voice, key);
+            let mut keys = [None; 4];
+            for (place, Key(other, _, _)) in KEYS.iter().enumerate() {
+                keys[place] = self.sounding(*other);
             }
-            writeln!(out)?;
+            events.push(Event {
+                key,
+                on: self.held(voice).is_some(),
+                keys,
+            })?;
         }
-        Ok(())
+        Ok(events)
     }
 }

@@ -3,13 +3,54 @@
 use crate::instrument;
 use crate::instrument::{Heard, Instrument, System};
 use crate::note::Note;
-use std::io;
-use std::io::Write;
+use crate::orders::{Event, Tally};
+use json_text::Hex;
+use serde::Serialize;
+use std::alloc::{AllocError, Global};
+use std::fmt;
 
 // The notes of the sixteen voices: the first sixteen partials of a low C.
 const PARTIALS: [u64; 16] = [
     36, 48, 55, 60, 64, 67, 70, 72, 74, 76, 78, 79, 81, 82, 83, 84,
 ];
+
+// A voice, its note, its page, the slot of its entry, its frame, and what is heard.
+#[derive(Clone, Copy, Serialize)]
+struct Voice {
+    voice: usize,
+    note: Note,
+    va: Hex,
+    slot: u64,
+    pa: Hex,
+    heard: Note,
+}
+
+// What was heard while every voice changed its note and its frame.
+#[derive(Clone, Copy, Serialize)]
+struct Change {
+    system: System,
+    #[serde(flatten)]
+    heard: Heard,
+}
+
+// An order in which the stale cache loses a tone, event by event, there and on the proved core.
+#[derive(Drop, Serialize)]
+struct FirstWrong {
+    stale_cache: Vec<Event>,
+    proved: Vec<Event>,
+}
+
+/// All three parts: sixteen voices, every voice changed, and every order of a chord.
+#[derive(Drop, Serialize)]
+pub struct Story {
+    voices: Vec<Voice>,
+    held: Heard,
+    changes: [Change; 3],
+    orders: [Tally; 3],
+    first_wrong: Option<FirstWrong>,
+    /// whether the proved core lost no tone in any
+    pub whole: bool,
+}
 
 impl Instrument {
     // All sixteen voices held.
@@ -20,39 +61,27 @@ impl Instrument {
         }
     }
 
-    // A voice, its note, its page, the slot of its entry, its frame, and what is heard.
-    fn show_voice<W: Write>(&mut self, out: &mut W, voice: usize) -> io::Result<()> {
-        let Some(held) = self.held(voice) else {
-            return Ok(());
-        };
-        let number = voice % 16 + 1;
-        let address = instrument::address(voice);
-        let slot = instrument::page(voice) % 1024;
-        let frame = instrument::frame_address(held.frame);
-        let heard = self.hear(voice);
-        write!(out, "{number:>8}   {}  {address:06x}", held.note)?;
-        writeln!(out, "    {slot:03x}   {frame:08x}   {heard}")
-    }
-
-    fn first_part<W: Write>(&mut self, out: &mut W) -> io::Result<Heard> {
-        write!(
-            out,
-            "1. Sixteen voices, a page each; voices 1 and 9, 2 and 10 .."
-        )?;
-        writeln!(out, " share a slot of the cache.\n")?;
-        writeln!(out, "   voice   note  page      slot  frame      heard")?;
+    fn voices(&mut self, alloc: Global) -> Result<Vec<Voice>, AllocError> {
         self.press_all(System::Proved);
-        for voice in 0..16 {
-            self.show_voice(out, voice)?;
+        let mut voices: Vec<Voice> = Vec::new(alloc);
+        for voice in 0..16usize {
+            if let Some(held) = self.held(voice) {
+                voices.push(Voice {
+                    voice: voice + 1,
+                    note: held.note,
+                    va: Hex(instrument::address(voice)),
+                    slot: instrument::page(voice) % 1024,
+                    pa: Hex(instrument::frame_address(held.frame)),
+                    heard: self.hear(voice),
+                })?;
+            }
         }
-        let heard = self.listen();
-        writeln!(out, "\n   sixteen voices held: {heard}")?;
-        Ok(heard)
+        Ok(voices)
     }
 
     // From all sixteen held: two neighbours let go, then each takes the other's frame, with the note a semitone above;
     // every pair in turn.
-    fn change_all<W: Write>(&mut self, out: &mut W, system: System) -> io::Result<Heard> {
+    fn change_all(&mut self, system: System) -> Change {
         self.press_all(system);
         let mut heard = self.listen();
         for pair in 0..8usize {
@@ -61,50 +90,116 @@ impl Instrument {
                 heard += self.listen();
             }
         }
-        writeln!(out, "   {:<22} {heard}", system.name())?;
-        Ok(heard)
-    }
-
-    fn second_part<W: Write>(&mut self, out: &mut W) -> io::Result<Heard> {
-        write!(out, "\n2. Every voice changes its note and its frame:")?;
-        writeln!(out, " note-off, TLBI by address, note-on.\n")?;
-        let heard = self.change_all(out, System::Proved)?;
-        self.change_all(out, System::StaleCache)?;
-        self.change_all(out, System::NoTlbi)?;
-        Ok(heard)
-    }
-
-    fn third_part<W: Write>(&mut self, out: &mut W) -> io::Result<Heard> {
-        write!(out, "\n3. Every order of a chord: C4 and E4 pressed twice,")?;
-        write!(out, " G4 and B4 once; C4 and E4 share a slot,")?;
-        writeln!(out, " and so do G4 and B4.\n")?;
-        let proved = self.play_all(out, System::Proved)?;
-        let stale = self.play_all(out, System::StaleCache)?;
-        self.play_all(out, System::NoTlbi)?;
-        if let Some(first) = stale.first {
-            write!(out, "\n   The stale cache loses a tone in")?;
-            write!(out, " {} orders. The first of them,", stale.wrong)?;
-            writeln!(out, " where two held keys read one page:\n")?;
-            self.show_order(out, System::StaleCache, first)?;
-            writeln!(out, "\n   The same order on the proved core:\n")?;
-            self.show_order(out, System::Proved, first)?;
-        }
-        Ok(proved.heard)
+        Change { system, heard }
     }
 }
 
-/// All three parts, over RAM of 2 MiB. Whether the proved core lost no tone in any is the last line, and the answer.
-pub fn tell<W: Write>(out: &mut W, ram: Vec<u8>) -> io::Result<bool> {
-    let mut instrument = Instrument::new(ram);
-    let mut heard = instrument.first_part(out)?;
-    heard += instrument.second_part(out)?;
-    heard += instrument.third_part(out)?;
-    let whole = heard.lost == 0;
-    let verdict = if whole {
-        "the chord is whole"
-    } else {
-        "THE CHORD LOST A TONE"
-    };
-    writeln!(out, "\n{verdict}")?;
-    Ok(whole)
+impl Story {
+    /// Plays it, over RAM of 2 MiB.
+    pub fn new(alloc: Global, ram: Vec<u8>) -> Result<Self, AllocError> {
+        let mut instrument = Instrument::new(ram);
+        let voices = instrument.voices(alloc)?;
+        let held = instrument.listen();
+        let changes = [System::Proved, System::StaleCache, System::NoTlbi].map(
+            |system| instrument.change_all(system),
+        );
+        let orders = [System::Proved, System::StaleCache, System::NoTlbi].map(
+            |system| instrument.play_all(system),
+        );
+        let first_wrong = match orders[1].first {
+            Some(first) => Some(FirstWrong {
+                stale_cache: instrument.events(alloc, System::StaleCache, first)?,
+                proved: instrument.events(alloc, System::Proved, first)?,
+            }),
+            None => None,
+        };
+        let whole = held.lost == 0 && changes[0].heard.lost == 0 && orders[0].heard.lost == 0;
+        Ok(Story {
+            voices,
+            held,
+            changes,
+            orders,
+            first_wrong,
+            whole,
+        })
+    }
+
+    fn first_part<W: fmt::Write>(&self, f: &mut fmt::Formatter<W>) -> fmt::Result {
+        write!(
+            f,
+            "1. Sixteen voices, a page each; voices 1 and 9, 2 and 10 .."
+        )?;
+        writeln!(f, " share a slot of the cache.\n")?;
+        writeln!(f, "   voice   note  page      slot  frame      heard")?;
+        for voice in &self.voices {
+            write!(f, "{voice}")?;
+        }
+        writeln!(f, "\n   sixteen voices held: {}", self.held)
+    }
+
+    fn second_part<W: fmt::Write>(&self, f: &mut fmt::Formatter<W>) -> fmt::Result {
+        write!(f, "\n2. Every voice changes its note and its frame:")?;
+        writeln!(f, " note-off, TLBI by address, note-on.\n")?;
+        for change in self.changes {
+            writeln!(f, "   {:<22} {}", change.system.name(), change.heard)?;
+        }
+        Ok(())
+    }
+
+    fn third_part<W: fmt::Write>(&self, f: &mut fmt::Formatter<W>) -> fmt::Result {
+        write!(f, "\n3. Every order of a chord: C4 and E4 pressed twice,")?;
+        write!(f, " G4 and B4 once; C4 and E4 share a slot,")?;
+        writeln!(f, " and so do G4 and B4.\n")?;
+        for tally in &self.orders {
+            write!(f, "{tally}")?;
+        }
+        if let Some(first) = &self.first_wrong {
+            write!(
+                f,
+                "\n   The stale cache loses a tone in {} orders.",
+                self.orders[1].wrong
+            )?;
+            writeln!(
+                f,
+                " The first of them, where two held keys read one page:\n"
+            )?;
+            for event in &first.stale_cache {
+                write!(f, "{event}")?;
+            }
+            writeln!(f, "\n   The same order on the proved core:\n")?;
+            for event in &first.proved {
+                write!(f, "{event}")?;
+            }
+        }
+        Ok(())
+    }
+}
+
+impl fmt::Display for Voice {
+    fn fmt<W: fmt::Write>(&self, f: &mut fmt::Formatter<W>) -> fmt::Result {
+        let Voice {
+            voice,
+            note,
+            va,
+            slot,
+            pa,
+            heard,
+        } = self;
+        write!(f, "{voice:>8}   {note}  {:06x}", va.0)?;
+        writeln!(f, "    {slot:03x}   {:08x}   {heard}", pa.0)
+    }
+}
+
+impl fmt::Display for Story {
+    fn fmt<W: fmt::Write>(&self, f: &mut fmt::Formatter<W>) -> fmt::Result {
+        self.first_part(f)?;
+        self.second_part(f)?;
+        self.third_part(f)?;
+        let verdict = if self.whole {
+            "the chord is whole"
+        } else {
+            "THE CHORD LOST A TONE"
+        };
+        writeln!(f, "\n{verdict}")
+    }
 }

@@ -41,14 +41,24 @@ pub fn cells(share: u64, walks: u64) -> usize
     if n == 0 && walks != 0 { 1 } else { n as usize }
 }
 
-/// The share of walks in percent with one decimal, and a bar of forty cells.
+/// The share of walks in percent with one decimal, and a bar of forty cells; a dash of nothing.
 #[derive(Clone, Copy)]
 pub struct Share(pub Tally);
 
+impl Share {
+    /// The share in parts of a thousand; none of nothing.
+    pub fn thousandths(self) -> Option<u64> {
+        let Tally { hits, walks } = self.0;
+        (hits != 0 || walks != 0).then_some(of_walks(hits, walks))
+    }
+}
+
 impl fmt::Display for Share {
     fn fmt<W: fmt::Write>(&self, f: &mut fmt::Formatter<W>) -> fmt::Result {
-        let Tally { hits, walks } = self.0;
-        let share = of_walks(hits, walks);
+        let walks = self.0.walks;
+        let Some(share) = self.thousandths() else {
+            return write!(f, "        -");
+        };
         match share {
             0 if walks != 0 => f.write_str("    <0.1")?,
             _ => write!(f, "{:>6}.{}", share / 10, share % 10)?,

@@ -6,8 +6,6 @@ use audit::{answers, dropped};
 use cpu::call::{Call, Reply};
 use cpu::check;
 use std::alloc::{AllocError, Global};
-use std::io;
-use std::io::Write;
 use system::decode;
 use system::decode::SysOp;
 use tlb::Inval;
@@ -31,6 +29,8 @@ pub struct Auditor {
     pub accesses: u64,
     /// those of them whose answer was stale
     pub stale: u64,
+    /// what was found and not taken away yet
+    pub found: Vec<Finding>,
 }
 
 // The address of the first store of a DC ZVA that is not refused.
@@ -59,39 +59,33 @@ impl Auditor {
             drops: Vec::new(alloc),
             accesses: 0,
             stale: 0,
+            found: Vec::new(alloc),
         })
     }
 
     // What is to be said of a stale answer.
     fn finding(&self, line: Cause, answered: Answered, kept: Option<Kept>) -> Finding {
-        let mut finding = Finding {
-            line,
-            answered,
-            kept,
-            drops: 0,
-            covering: None,
-        };
+        let (mut since, mut covering) = (0u64, None);
         if let Some(kept) = kept {
             for drop in self.drops.iter() {
                 if kept.by.number < drop.line.number {
-                    finding.drops = finding.drops.wrapping_add(1);
+                    since = since.wrapping_add(1);
                     if dropped::covers(drop.what, kept.page, &kept.leaf, kept.asid) {
-                        finding.covering = Some(drop.line);
+                        covering = Some(drop.line);
                     }
                 }
             }
         }
-        finding
+        Finding::new(line, answered, kept, since, covering)
     }
 
     // One translation of a line.
-    fn judge<W: Write>(
+    fn judge(
         &mut self,
-        out: &mut W,
         machine: &Machine,
         line: Cause,
         answered: Answered,
-    ) -> io::Result<()> {
+    ) -> Result<(), AllocError> {
         let ram = machine.ram.as_slice();
         let kept = self
             .keeping
@@ -99,28 +93,28 @@ impl Auditor {
         self.accesses = self.accesses.wrapping_add(1);
         if answered.is_stale() {
             self.stale = self.stale.wrapping_add(1);
-            write!(out, "{}", self.finding(line, answered, kept))?;
+            let finding = self.finding(line, answered, kept);
+            self.found.push(finding)?;
         }
         Ok(())
     }
 
     // A call: its translations, what it invalidates, and then the call.
-    fn call<W: Write>(
+    fn call(
         &mut self,
-        out: &mut W,
         machine: &mut Machine,
         line: Cause,
         call: Call,
-    ) -> io::Result<Answer> {
+    ) -> Result<Answer, AllocError> {
         let (core, ram) = (&machine.core, machine.ram.as_slice());
         let answers = answers::answers_to(core, machine.base, ram, call);
         let what = dropped::dropped(core, machine.base, ram, call);
         match answers {
             Answers::Nothing => {}
-            Answers::One(answered) => self.judge(out, machine, line, answered)?,
+            Answers::One(answered) => self.judge(machine, line, answered)?,
             Answers::Two(answered, next) => {
-                self.judge(out, machine, line, answered)?;
-                self.judge(out, machine, line, next)?;
+                self.judge(machine, line, answered)?;
+                self.judge(machine, line, next)?;
             }
         }
         if let Some(what) = what {
@@ -130,16 +124,10 @@ impl Auditor {
     }
 
     // DC ZVA: eight stores, up to the first that is not done.
-    fn zero<W: Write>(
-        &mut self,
-        out: &mut W,
-        machine: &mut Machine,
-        line: Cause,
-        va: u64,
-    ) -> io::Result<()> {
+    fn zero(&mut self, machine: &mut Machine, line: Cause, va: u64) -> Result<(), AllocError> {
         for n in 0..8u64 {
             let store = Call::Store(va.wrapping_add(n * 8), 8, 0);
-            match self.call(out, machine, line, store)? {
+            match self.call(machine, line, store)? {
                 Answer::Reply(Reply::Done) => {}
                 _ => return Ok(()),
             }
@@ -147,13 +135,8 @@ impl Auditor {
         Ok(())
     }
 
-    /// Carries out a line, and writes what is to be said of each stale answer in it.
-    pub fn line<W: Write>(
-        &mut self,
-        out: &mut W,
-        machine: &mut Machine,
-        line: Cause,
-    ) -> io::Result<()> {
+    /// Carries out a line, and finds each stale answer in it.
+    pub fn line(&mut self, machine: &mut Machine, line: Cause) -> Result<(), AllocError> {
         match line.line {
             Line::Setup(setup) => {
                 machine.arrange(setup)?;
@@ -168,9 +151,9 @@ impl Auditor {
                 }
             }
             Line::Operation(Operation::Call(call)) => match zeroing(machine, call) {
-                Some(va) => self.zero(out, machine, line, va)?,
+                Some(va) => self.zero(machine, line, va)?,
                 None => {
-                    self.call(out, machine, line, call)?;
+                    self.call(machine, line, call)?;
                 }
             },
             Line::Operation(operation) => {

@@ -3,6 +3,7 @@ use crate::auditor::Auditor;
 use crate::kept::Cause;
 use crate::report::Trouble;
 use crate::show;
+use crate::show::Outcome;
 use reads_report::named;
 use reads_report::pages::Pages;
 use std::alloc::Global;
@@ -42,6 +43,8 @@ pub trait Carrier {
 pub struct Shown<'a, W> {
     pub out: &'a mut W,
     pub form: show::Form,
+    /// as JSON, which is made here
+    pub json: Option<Global>,
 }
 
 /// Nothing is said.
@@ -69,6 +72,8 @@ pub struct Audited<'a, W> {
     pub auditor: Auditor,
     /// all stale answers are shown, or the first alone
     pub all: bool,
+    /// each is shown when it is found; else they are kept
+    pub at_once: bool,
 }
 
 // The line, but for what it says.
@@ -91,14 +96,11 @@ impl<W: Write> Carrier for Shown<'_, W> {
             return Ok(true);
         };
         let performed = machine.perform(operation);
-        show::operation(
-            self.out,
-            self.form,
-            line.number,
-            &operation,
-            performed,
-            machine,
-        )
+        let outcome = Outcome::new(self.form, line.number, &operation, performed, machine);
+        match self.json {
+            Some(alloc) => json_text::line(self.out, alloc, &outcome),
+            None => write!(self.out, "{outcome}"),
+        }
         .map_err(Trouble::Output)?;
         line.hold(performed.reads)?;
         Ok(true)
@@ -137,9 +139,13 @@ impl Carrier for Counted {
 impl<W: Write> Carrier for Audited<'_, W> {
     fn line(&mut self, line: Numbered, machine: &mut Machine) -> Result<bool, Trouble> {
         let Numbered { number, line, .. } = line;
-        self.auditor
-            .line(self.out, machine, Cause { number, line })
-            .map_err(Trouble::Output)?;
+        self.auditor.line(machine, Cause { number, line })?;
+        if self.at_once {
+            for finding in &self.auditor.found {
+                write!(self.out, "{finding}").map_err(Trouble::Output)?;
+            }
+            self.auditor.found.clear();
+        }
         Ok(self.all || self.auditor.stale == 0)
     }
 }

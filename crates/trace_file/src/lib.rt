@@ -3,10 +3,11 @@
 pub mod auditor;
 pub mod cache;
 pub mod carry;
-mod finding;
+pub mod finding;
 mod kept;
 pub mod load;
 pub mod report;
 pub mod run;
+mod said;
 pub mod show;
 pub mod words;

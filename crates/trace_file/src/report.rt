@@ -1,7 +1,7 @@
 //! What keeps a trace from being carried out, and what is said of it on standard error: `FILE:LINE:COLUMN: reason`.
+use serde::Serialize;
 use std::alloc::{AllocError, Global};
-use std::io;
-use std::io::Write;
+use std::{fmt, io};
 use trace_text::expected::Said;
 use trace_text::reason::Refusal;
 
@@ -31,27 +31,77 @@ impl From<AllocError> for Trouble {
     }
 }
 
+/// What is said of a call that is not carried out: where it stopped, if there is a place, and why.
+#[derive(Drop, Serialize)]
+pub struct Message<'a> {
+    /// a file, an option, or the write of standard output
+    #[serde(skip_serializing_if = Option::is_none)]
+    place: Option<&'a str>,
+    #[serde(skip_serializing_if = Option::is_none)]
+    line: Option<u64>,
+    #[serde(skip_serializing_if = Option::is_none)]
+    column: Option<usize>,
+    reason: String,
+}
+
+impl<'a> Message<'a> {
+    pub fn new(place: Option<&'a str>, reason: String) -> Self {
+        Message {
+            place,
+            line: None,
+            column: None,
+            reason,
+        }
+    }
+
+    // In a line of the file, at a column.
+    fn at(path: &'a str, line: u64, column: usize, reason: String) -> Self {
+        Message {
+            place: Some(path),
+            line: Some(line),
+            column: Some(column),
+            reason,
+        }
+    }
+}
+
+impl fmt::Display for Message<'_> {
+    fn fmt<W: fmt::Write>(&self, f: &mut fmt::Formatter<W>) -> fmt::Result {
+        write!(f, "a72: ")?;
+        if let Some(place) = self.place {
+            write!(f, "{place}")?;
+        }
+        if let (Some(line), Some(column)) = (self.line, self.column) {
+            write!(f, ":{line}:{column}")?;
+        }
+        if self.place.is_some() {
+            write!(f, ": ")?;
+        }
+        writeln!(f, "{}", self.reason)
+    }
+}
+
 /// An error of the system in its own words, which std follows by the error's number.
-pub fn system<W: Write>(
-    out: &mut W,
-    alloc: Global,
-    what: &str,
-    error: io::Error,
-) -> io::Result<()> {
+pub fn system(alloc: Global, error: io::Error) -> Result<String, AllocError> {
     let text = format!(in alloc; "{error}")?;
     match text.split_once(" (os error ") {
-        Some((words, _)) => writeln!(out, "a72: {what}: {words}"),
-        None => writeln!(out, "a72: {what}: {text}"),
+        Some((words, _)) => String::from_str(alloc, words),
+        None => Ok(text),
     }
 }
 
 /// The message on a trace.
-pub fn show<W: Write>(out: &mut W, alloc: Global, path: &str, trouble: Trouble) -> io::Result<()> {
-    match trouble {
-        Trouble::File(error) => system(out, alloc, path, error),
-        Trouble::Output(error) => system(out, alloc, "write", error),
+pub fn message_on<'a>(
+    alloc: Global,
+    path: &'a str,
+    trouble: Trouble,
+) -> Result<Message<'a>, AllocError> {
+    let written = |reason: &str| String::from_str(alloc, reason);
+    Ok(match trouble {
+        Trouble::File(error) => Message::new(Some(path), system(alloc, error)?),
+        Trouble::Output(error) => Message::new(Some("write"), system(alloc, error)?),
         Trouble::Line(line, Refusal { column, reason }) => {
-            writeln!(out, "a72: {path}:{line}:{column}: {reason}")
+            Message::at(path, line, column, format!(in alloc; "{reason}")?)
         }
         Trouble::Reads(line, said, is) => {
             let Said {
@@ -59,27 +109,24 @@ pub fn show<W: Write>(out: &mut W, alloc: Global, path: &str, trouble: Trouble) 
                 zeros,
                 column,
             } = said;
-            write!(
-                out,
-                "a72: {path}:{line}:{column}: descriptors read: {is:x}, not "
+            let reason = format!(in alloc;
+                "descriptors read: {is:x}, not {:0>zeros$}{reads:x}",
+                ""
             )?;
-            writeln!(out, "{:0>zeros$}{reads:x}", "")
+            Message::at(path, line, column, reason)
         }
         Trouble::Load(line, column, error) => {
-            let place = format!(in alloc; "{path}:{line}:{column}")?;
-            system(out, alloc, place.as_str(), error)
+            Message::at(path, line, column, system(alloc, error)?)
         }
-        Trouble::Image(error) => system(out, alloc, "--image", error),
-        Trouble::LongImage => {
-            writeln!(
-                out,
-                "a72: --image: a file of more than 20000000 bytes (512 MiB)"
-            )
-        }
-        Trouble::ManyLines => writeln!(out, "a72: {path}: more than 1000000000 lines"),
-        Trouble::ReadOnce => writeln!(
-            out,
-            "a72: {path}: not a file that can be read twice (- is standard input)"
+        Trouble::Image(error) => Message::new(Some("--image"), system(alloc, error)?),
+        Trouble::LongImage => Message::new(
+            Some("--image"),
+            written("a file of more than 20000000 bytes (512 MiB)")?,
         ),
-    }
+        Trouble::ManyLines => Message::new(Some(path), written("more than 1000000000 lines")?),
+        Trouble::ReadOnce => Message::new(
+            Some(path),
+            written("not a file that can be read twice (- is standard input)")?,
+        ),
+    })
 }

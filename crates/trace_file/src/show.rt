@@ -1,58 +1,54 @@
 //! A line of output for an operation: its number in the trace, the operation, the answer, the descriptors
 //! that its walks read, and the core after it.
-use crate::words;
+use crate::said;
+use crate::words::Words;
 use core_parts::read;
 use counters_report::line::Levels;
 use cpu::Core;
 use digest::parts;
-use std::io;
-use std::io::Write;
+use digest::parts::Sum;
+use json_text::{Count, Hex, Shown};
+use serde::Serialize;
+use std::fmt;
 use trace_core::machine::{Machine, Performed};
+use trace_text::answer::Answer;
 use trace_text::line::Operation;
 
-// What the cache counted, and what is pending for the other cores.
-fn counts<W: Write>(out: &mut W, core: &Core) -> io::Result<()> {
-    let tlb = &core.tlb;
-    let mut pending = [0; 2];
-    read::pending(core, &mut pending);
-    let [kind, operand] = pending;
-    write!(out, " | {}", Levels(&tlb.levels))?;
-    write!(
-        out,
-        " fl={:x} dr={:x} ep={:x}",
-        tlb.flushes, tlb.drops, tlb.epoch
-    )?;
-    write!(out, " bc={kind}:{operand:x}")
+// What is pending for the other cores.
+#[derive(Clone, Copy, Serialize)]
+struct Pending {
+    kind: u64,
+    operand: Hex,
 }
 
-// The registers that a line of output names.
-fn registers<W: Write>(out: &mut W, core: &Core, level: u64) -> io::Result<()> {
-    let tlb = &core.tlb;
-    let mark = u8::from(core.privilege.unprivileged);
-    write!(
-        out,
-        " lp={:x} ap={:x} el={level} um={mark}",
-        core.last_pa, core.abort_pa
-    )?;
-    write!(out, " as={:x} gen={:x}", tlb.asid, tlb.generation)?;
-    write!(out, " par={:x} pc={:x}", core.sys.par_el1, core.pc)
+// How many entries or hints there are, and their digest.
+#[derive(Clone, Copy, Serialize)]
+struct Digest {
+    count: u64,
+    digest: Hex,
 }
 
-// The digests of registers, entries, hints and the window.
-fn digests<W: Write>(out: &mut W, core: &Core, ram: u64) -> io::Result<()> {
-    let entries = parts::entries(core);
-    let hints = parts::hints(core);
-    write!(out, " R={:016x}", parts::registers(core))?;
-    write!(out, " T={}:{:016x}", entries.count, entries.digest)?;
-    writeln!(out, " H={}:{:016x} M={ram:016x}", hints.count, hints.digest)
-}
-
-// The core after an operation.
-fn whole<W: Write>(out: &mut W, machine: &mut Machine) -> io::Result<()> {
-    let ram = machine.window_digest();
-    counts(out, &machine.core)?;
-    registers(out, &machine.core, machine.level())?;
-    digests(out, &machine.core, ram)
+// The core after an operation: what the cache counted, registers, and the digests of registers, entries, hints and the
+// window.
+#[derive(Clone, Copy, Serialize)]
+struct After {
+    counters: Levels,
+    flushes: Count,
+    drops: Count,
+    epoch: Count,
+    broadcast: Pending,
+    last_pa: Hex,
+    abort_pa: Hex,
+    el: u64,
+    unprivileged: bool,
+    asid: Hex,
+    generation: Count,
+    par: Hex,
+    pc: Hex,
+    registers: Hex,
+    entries: Digest,
+    hints: Digest,
+    ram: Hex,
 }
 
 /// What a line of output says.
@@ -66,26 +62,131 @@ pub enum Form {
     Words,
 }
 
-/// The line of output of an operation that was carried out.
-pub fn operation<W: Write>(
-    out: &mut W,
-    form: Form,
-    number: u64,
-    operation: &Operation,
-    performed: Performed,
-    machine: &mut Machine,
-) -> io::Result<()> {
-    let Performed { answer, reads } = performed;
-    write!(out, "{number} {operation} => {answer}")?;
-    if operation.reports() {
-        write!(out, " rd={reads:x}")?;
+/// An operation that was carried out. Shown, it is a line, and one for each of its words.
+#[derive(Clone, Copy, Serialize)]
+pub struct Outcome {
+    line: Count,
+    operation: Shown<Operation>,
+    #[serde(serialize_with = said::answer)]
+    answer: Answer,
+    #[serde(skip_serializing_if = Option::is_none)]
+    reads: Option<Count>,
+    #[serde(skip_serializing_if = Option::is_none)]
+    words: Option<Words>,
+    #[serde(skip_serializing_if = Option::is_none)]
+    core: Option<After>,
+}
+
+impl Digest {
+    fn new(sum: Sum) -> Self {
+        Digest {
+            count: sum.count,
+            digest: Hex(sum.digest),
+        }
     }
-    match form {
-        Form::Whole => whole(out, machine),
-        Form::Short => writeln!(out),
-        Form::Words => {
-            writeln!(out)?;
-            words::show(out, operation, answer, &machine.core)
+}
+
+impl Pending {
+    fn new(core: &Core) -> Self {
+        let mut pending = [0; 2];
+        read::pending(core, &mut pending);
+        let [kind, operand] = pending;
+        Pending {
+            kind,
+            operand: Hex(operand),
+        }
+    }
+}
+
+impl After {
+    fn new(machine: &mut Machine) -> Self {
+        let ram = machine.window_digest();
+        let el = machine.level();
+        let core = &machine.core;
+        let tlb = &core.tlb;
+        After {
+            counters: Levels::new(&tlb.levels),
+            flushes: Count(tlb.flushes),
+            drops: Count(tlb.drops),
+            epoch: Count(tlb.epoch),
+            broadcast: Pending::new(core),
+            last_pa: Hex(core.last_pa),
+            abort_pa: Hex(core.abort_pa),
+            el,
+            unprivileged: core.privilege.unprivileged,
+            asid: Hex(u64::from(tlb.asid)),
+            generation: Count(u64::from(tlb.generation)),
+            par: Hex(core.sys.par_el1),
+            pc: Hex(core.pc),
+            registers: Hex(parts::registers(core)),
+            entries: Digest::new(parts::entries(core)),
+            hints: Digest::new(parts::hints(core)),
+            ram: Hex(ram),
+        }
+    }
+}
+
+impl Outcome {
+    /// Of the operation of a line, on the machine after it.
+    pub fn new(
+        form: Form,
+        line: u64,
+        operation: &Operation,
+        performed: Performed,
+        machine: &mut Machine,
+    ) -> Self {
+        let Performed { answer, reads } = performed;
+        let words = (form == Form::Words).then(|| Words::new(operation, answer, &machine.core));
+        let core = match form {
+            Form::Whole => Some(After::new(machine)),
+            _ => None,
+        };
+        Outcome {
+            line: Count(line),
+            operation: Shown::new(*operation),
+            answer,
+            reads: operation.reports().then_some(Count(reads)),
+            words,
+            core,
+        }
+    }
+}
+
+impl fmt::Display for Digest {
+    fn fmt<W: fmt::Write>(&self, f: &mut fmt::Formatter<W>) -> fmt::Result {
+        write!(f, "{}:{:016x}", self.count, self.digest.0)
+    }
+}
+
+impl fmt::Display for After {
+    fn fmt<W: fmt::Write>(&self, f: &mut fmt::Formatter<W>) -> fmt::Result {
+        let Pending { kind, operand } = self.broadcast;
+        write!(f, " | {} fl={:x}", self.counters, self.flushes.0)?;
+        write!(f, " dr={:x} ep={:x}", self.drops.0, self.epoch.0)?;
+        write!(f, " bc={kind}:{:x} lp={:x}", operand.0, self.last_pa.0)?;
+        write!(f, " ap={:x} el={}", self.abort_pa.0, self.el)?;
+        write!(f, " um={}", u8::from(self.unprivileged))?;
+        write!(f, " as={:x} gen={:x}", self.asid.0, self.generation.0)?;
+        write!(f, " par={:x} pc={:x}", self.par.0, self.pc.0)?;
+        write!(f, " R={:016x} T={}", self.registers.0, self.entries)?;
+        write!(f, " H={} M={:016x}", self.hints, self.ram.0)
+    }
+}
+
+impl fmt::Display for Outcome {
+    fn fmt<W: fmt::Write>(&self, f: &mut fmt::Formatter<W>) -> fmt::Result {
+        let operation = self.operation.value;
+        write!(f, "{} {operation} => {}", self.line.0, self.answer)?;
+        if let Some(reads) = self.reads {
+            write!(f, " rd={:x}", reads.0)?;
+        }
+        if let Some(core) = &self.core {
+            write!(f, "{core}")?;
+        }
+        writeln!(f)?;
+        match &self.words {
+            Some(words) => write!(f, "{words}"),
+            None => Ok(()),
         }
     }
 }

@@ -16,8 +16,8 @@ pub enum Answer {
     Counts { count: u64, digest: u64 },
 }
 
-// Attribute index, shareability, NS and global: the first three are the descriptor's own bits.
-fn attributes(leaf: Leaf) -> [u64; 4] {
+/// Attribute index, shareability, NS and global: the first three are the descriptor's own bits.
+pub fn attributes(leaf: Leaf) -> [u64; 4] {
     let desc = leaf.desc;
     [
         desc >> 2 & 7,

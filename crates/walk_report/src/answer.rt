@@ -1,8 +1,10 @@
 // What an access gets: from a walk made now, and from the core, cache and all.
+use crate::fields::Faulted;
 use cpu::Core;
 use cpu::call::{Call, Reply};
 use fault::Fault;
-use manual_words::status::Status;
+use json_text::Hex;
+use serde::{Described, Serialize, Serializer};
 use std::fmt;
 use sysreg::regs::Regime;
 use tlb::access::Kind;
@@ -26,16 +28,39 @@ impl fmt::Display for Told {
         match *self {
             Told::Address(pa) => write!(f, "address {pa:x}"),
             Told::Fault(fsc) => {
-                let status = Status(fsc);
-                write!(f, "fault 0x{fsc:02x}, {status}")
+                let fault = Faulted::new(fsc);
+                write!(f, "fault 0x{fsc:02x}, {fault}")
             }
             Told::Nothing(check) => write!(f, "no answer, check {check}"),
         }
     }
 }
 
+#[derive(Clone, Copy, Serialize)]
+struct ToldAddress {
+    pa: Hex,
+}
+
+#[derive(Clone, Copy, Serialize)]
+struct ToldNothing {
+    check: u8,
+}
+
+impl Described for Told {}
+
+impl Serialize for Told {
+    fn serialize<S: Serializer>(&self, out: &mut S) -> Result<(), S::Error> {
+        match *self {
+            Told::Address(pa) => ToldAddress { pa: Hex(pa) }.serialize(out),
+            Told::Fault(fsc) => Faulted::new(fsc).serialize(out),
+            Told::Nothing(check) => ToldNothing { check }.serialize(out),
+        }
+    }
+}
+
 /// Where the core's answer came from.
-#[derive(Clone, Copy, PartialEq, Eq)]
+#[derive(Clone, Copy, PartialEq, Eq, Serialize)]
+#[serde(rename_all = "lowercase")]
 pub enum Source {
     /// stage 1 is off
     Flat,

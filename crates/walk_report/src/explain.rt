@@ -1,11 +1,14 @@
 // A translation explained: what a walk made now gives, beside what the core answers.
 use crate::answer::{Source, Told};
-use crate::{levels, registers};
+use crate::levels;
+use crate::levels::Steps;
+use crate::registers::Registers;
 use cpu::Core;
+use json_text::{Count, Hex, Shown};
 use manual_words::memory;
 use manual_words::memory::{Memory, Shareability};
-use std::io;
-use std::io::Write;
+use serde::Serialize;
+use std::fmt;
 use sysreg::regs::Regime;
 use tlb::access::Kind;
 use tlb::count::Tally;
@@ -47,17 +50,46 @@ fn flat_meaning(fits: bool, whole: bool) -> &'static str {
 }
 
 // What the leaf's attribute says, by the regime's MAIR, and its SH.
-fn show_memory<W: Write>(out: &mut W, core: &Core, regime: Regime, leaf: &Leaf) -> io::Result<()> {
-    let desc = leaf.desc;
-    let index = (desc >> 2 & 7) as u8;
-    let attribute = memory::attribute(core.sys.mair[regime.index()], index);
-    let sharing = Shareability::new((desc >> 8 & 3) as u8);
-    write!(
-        out,
-        "memory     MAIR_EL{}.Attr{index} is {attribute:02x}: ",
-        u64::from(regime)
-    )?;
-    writeln!(out, "{}, {sharing}", Memory::new(attribute))
+#[derive(Clone, Copy, Serialize)]
+struct Attribute {
+    mair_el: u64,
+    attr: u8,
+    value: Hex,
+    memory: Shown<Memory>,
+    sharing: Shown<Shareability>,
+}
+
+impl Attribute {
+    fn new(core: &Core, regime: Regime, leaf: &Leaf) -> Self {
+        let desc = leaf.desc;
+        let attr = (desc >> 2 & 7) as u8;
+        let value = memory::attribute(core.sys.mair[regime.index()], attr);
+        Attribute {
+            mair_el: u64::from(regime),
+            attr,
+            value: Hex(u64::from(value)),
+            memory: Shown::new(Memory::new(value)),
+            sharing: Shown::new(Shareability::new((desc >> 8 & 3) as u8)),
+        }
+    }
+}
+
+impl fmt::Display for Attribute {
+    fn fmt<W: fmt::Write>(&self, f: &mut fmt::Formatter<W>) -> fmt::Result {
+        let Attribute {
+            mair_el,
+            attr,
+            value,
+            memory,
+            sharing,
+        } = self;
+        write!(
+            f,
+            "memory     MAIR_EL{mair_el}.Attr{attr} is {:02x}: ",
+            value.0
+        )?;
+        writeln!(f, "{}, {}", memory.value, sharing.value)
+    }
 }
 
 // A stale cache is seen here.
@@ -73,57 +105,103 @@ fn verdict(now: Told, core: Told) -> &'static str {
     }
 }
 
-/// One translation on a core and its window, which starts at `base`: what is asked, the registers, a walk made now, and
-/// what the core answers. Gives whether the core answers as the walk does.
-pub fn explain<W: Write>(
-    out: &mut W,
-    core: &mut Core,
-    base: u64,
-    ram: &mut [u8],
-    kind: Kind,
-    va: u64,
-) -> io::Result<bool> {
+/// One translation on a core and its window: what is asked, the registers, a walk made now, and what the core answers.
+#[derive(Clone, Copy, Serialize)]
+pub struct Explained {
+    access: &'static str,
+    va: Hex,
+    el: u8,
+    unprivileged: bool,
+    regime: &'static str,
+    registers: Registers,
+    untagged: Hex,
+    // with stage 1 off, what that makes of the address; with stage 1 on, the walk
+    #[serde(skip_serializing_if = Option::is_none)]
+    stage1_off: Option<&'static str>,
+    #[serde(skip_serializing_if = Option::is_none)]
+    walk: Option<Steps>,
+    #[serde(skip_serializing_if = Option::is_none)]
+    memory: Option<Attribute>,
+    walk_now: Told,
+    core: Told,
+    by: Source,
+    verdict: &'static str,
+    reads: u8,
+    core_reads: Count,
+    /// whether the core answers as the walk does, or not at all
+    pub agree: bool,
+}
+
+/// Explains a translation on a core and its window, which starts at `base`.
+pub fn explain(core: &mut Core, base: u64, ram: &mut [u8], kind: Kind, va: u64) -> Explained {
     let privilege = core.privilege;
     let regime = Regime::of_level(privilege.level);
     let bank = core.bank();
-    let kind_name = kind_name(kind);
-    write!(out, "{kind_name} of {va:016x} at EL{}", privilege.level)?;
-    if privilege.unprivileged {
-        write!(out, ", unprivileged")?;
-    }
-    writeln!(out, ": the regime is {}", regime_name(regime))?;
-    registers::show(out, bank, regime)?;
-    let on = bank.stage1_on(regime);
-    let page = bank.untag(regime, va);
-    if page != va {
-        writeln!(out, "untagged   {page:016x}")?;
-    }
-    let mut reads = 0;
-    let now = if on {
-        let steps = levels::walk(bank, regime, page, base, ram);
-        write!(out, "{steps}")?;
-        reads = steps.reads;
-        if let Ok(leaf) = &steps.answer {
-            show_memory(out, core, regime, leaf)?;
-        }
-        Told::of_walk(core, steps.answer, regime, kind, va)
-    } else {
-        let flat = access::flat(&bank, regime, va);
-        writeln!(
-            out,
-            "stage 1 is off: {}",
-            flat_meaning(flat.is_ok(), page == va)
-        )?;
-        Told::from(flat)
+    let untagged = bank.untag(regime, va);
+    let (on, flat) = (bank.stage1_on(regime), access::flat(&bank, regime, va));
+    let walk = on.then(|| levels::walk(bank, regime, untagged, base, ram));
+    let walk_now = match &walk {
+        Some(steps) => Told::of_walk(core, steps.answer, regime, kind, va),
+        None => Told::from(flat),
     };
-    writeln!(out, "walk now   {now}")?;
+    let memory = match walk.map(|steps| steps.answer) {
+        Some(Ok(leaf)) => Some(Attribute::new(core, regime, &leaf)),
+        _ => None,
+    };
     let before = counters(core);
     let mut work = Work::none();
-    let by_core = Told::of_core(core, base, ram, kind, va, &mut work);
-    let source = Source::new(on, before, counters(core));
-    writeln!(out, "the core   {by_core}, {source}")?;
-    writeln!(out, "{}", verdict(now, by_core))?;
-    writeln!(out, "descriptors read: {reads}")?;
-    writeln!(out, "by the core: {}, {source}", work.reads)?;
-    Ok(now == by_core || matches!(by_core, Told::Nothing(_)))
+    let told = Told::of_core(core, base, ram, kind, va, &mut work);
+    Explained {
+        access: kind_name(kind),
+        va: Hex(va),
+        el: privilege.level,
+        unprivileged: privilege.unprivileged,
+        regime: regime_name(regime),
+        registers: Registers::new(bank, regime),
+        untagged: Hex(untagged),
+        stage1_off: (!on).then_some(flat_meaning(flat.is_ok(), untagged == va)),
+        walk,
+        memory,
+        walk_now,
+        core: told,
+        by: Source::new(on, before, counters(core)),
+        verdict: verdict(walk_now, told),
+        reads: walk.map_or(0, |steps| steps.reads),
+        core_reads: Count(work.reads),
+        agree: walk_now == told || matches!(told, Told::Nothing(_)),
+    }
+}
+
+impl Explained {
+    fn show_question<W: fmt::Write>(&self, f: &mut fmt::Formatter<W>) -> fmt::Result {
+        write!(f, "{} of {:016x} at EL{}", self.access, self.va.0, self.el)?;
+        if self.unprivileged {
+            write!(f, ", unprivileged")?;
+        }
+        write!(f, ": the regime is {}\n{}", self.regime, self.registers)?;
+        if self.untagged != self.va {
+            writeln!(f, "untagged   {:016x}", self.untagged.0)?;
+        }
+        Ok(())
+    }
+}
+
+impl fmt::Display for Explained {
+    fn fmt<W: fmt::Write>(&self, f: &mut fmt::Formatter<W>) -> fmt::Result {
+        self.show_question(f)?;
+        if let Some(meaning) = self.stage1_off {
+            writeln!(f, "stage 1 is off: {meaning}")?;
+        }
+        if let Some(walk) = &self.walk {
+            write!(f, "{walk}")?;
+        }
+        if let Some(memory) = &self.memory {
+            write!(f, "{memory}")?;
+        }
+        writeln!(f, "walk now   {}", self.walk_now)?;
+        writeln!(f, "the core   {}, {}", self.core, self.by)?;
+        writeln!(f, "{}", self.verdict)?;
+        writeln!(f, "descriptors read: {}", self.reads)?;
+        writeln!(f, "by the core: {}, {}", self.core_reads.0, self.by)
+    }
 }

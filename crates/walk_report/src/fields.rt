@@ -1,4 +1,7 @@
-// Bits and rights, as numbers and letters.
+// Bits, rights and faults, as numbers, letters and words.
+use json_text::{Hex, Shown};
+use manual_words::status::Status;
+use serde::{Described, Serialize, Serializer};
 use std::fmt;
 use sysreg::regs::Regime;
 
@@ -29,5 +32,47 @@ impl fmt::Display for Rights {
             Regime::El2 => write!(f, "EL2 {own}"),
             Regime::El3 => write!(f, "EL3 {own}"),
         }
+    }
+}
+
+impl Described for Rights {}
+
+// The rights by level, as letters.
+impl Serialize for Rights {
+    fn serialize<S: Serializer>(&self, out: &mut S) -> Result<(), S::Error> {
+        out.begin_map(None)?;
+        if !self.regime.is_single() {
+            out.key("el0")?;
+            out.str(letters(self.perms))?;
+        }
+        out.key(match self.regime {
+            Regime::El1 => "el1",
+            Regime::El2 => "el2",
+            Regime::El3 => "el3",
+        })?;
+        out.str(letters(self.perms / 8))?;
+        out.end_map()
+    }
+}
+
+/// A fault's status, and what it says.
+#[derive(Clone, Copy, Serialize)]
+pub struct Faulted {
+    status: Hex,
+    fault: Shown<Status>,
+}
+
+impl Faulted {
+    pub fn new(status: u8) -> Self {
+        Faulted {
+            status: Hex(u64::from(status)),
+            fault: Shown::new(Status(status)),
+        }
+    }
+}
+
+impl fmt::Display for Faulted {
+    fn fmt<W: fmt::Write>(&self, f: &mut fmt::Formatter<W>) -> fmt::Result {
+        write!(f, "{}", self.fault.value)
     }
 }

@@ -5,4 +5,4 @@ pub mod answer;
 pub mod explain;
 pub mod fields;
 pub mod levels;
-pub mod registers;
+mod registers;

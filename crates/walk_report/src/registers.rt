@@ -1,55 +1,218 @@
 // The registers that a translation reads, each with its fields.
 use crate::fields::bit;
-use std::io;
-use std::io::Write;
+use json_text::Hex;
+use serde::Serialize;
+use std::fmt;
 use sysreg::regs::Regime;
 use walk::regime::Bank;
+
+// SCTLR_ELx.
+#[derive(Clone, Copy, Serialize)]
+pub(crate) struct Sctlr {
+    value: Hex,
+    m: u64,
+    wxn: u64,
+}
+
+// What TCR_EL1 says of one range: size, granule, EPD and top byte ignore.
+#[derive(Clone, Copy, Serialize)]
+pub(crate) struct Half {
+    tsz: u64,
+    tg: &'static str,
+    epd: u64,
+    tbi: u64,
+}
+
+// TCR_EL1: two ranges; output size, the ASID's place and width.
+#[derive(Clone, Copy, Serialize)]
+pub(crate) struct Tcr {
+    value: Hex,
+    lower: Half,
+    upper: Half,
+    ips: u64,
+    a1: u64,
+    #[serde(rename = "as")]
+    wide: u64,
+}
+
+// TCR_EL2 or TCR_EL3: one range.
+#[derive(Clone, Copy, Serialize)]
+pub(crate) struct SingleTcr {
+    value: Hex,
+    t0sz: u64,
+    tg0: &'static str,
+    tbi: u64,
+    ps: u64,
+}
+
+// TTBR0 or TTBR1.
+#[derive(Clone, Copy, Serialize)]
+pub(crate) struct Ttbr {
+    value: Hex,
+    asid: Hex,
+    base: Hex,
+}
+
+// The registers of EL1&0.
+#[derive(Clone, Copy, Serialize)]
+pub(crate) struct Shared {
+    sctlr: Sctlr,
+    tcr: Tcr,
+    ttbr0: Ttbr,
+    ttbr1: Ttbr,
+    scr_ns: u64,
+    hcr_tge: u64,
+    hcr_dc: u64,
+}
+
+// The registers of EL2 or EL3.
+#[derive(Clone, Copy, Serialize)]
+pub(crate) struct Single {
+    sctlr: Sctlr,
+    tcr: SingleTcr,
+    ttbr0: Ttbr,
+}
+
+/// The registers of a regime. Shown, each is a line.
+#[derive(Clone, Copy, Serialize)]
+#[serde(untagged)]
+pub(crate) enum Registers {
+    Shared(Shared),
+    Single(Single),
+}
 
 fn granule(large: bool) -> &'static str {
     if large { "64K" } else { "4K" }
 }
 
-// TCR_EL1: two ranges, each with its size, granule, EPD and top byte ignore; output size, the ASID's place and width.
-fn tcr_el1<W: Write>(out: &mut W, tcr: u64) -> io::Result<()> {
-    write!(out, "TCR        {tcr:016x}  ")?;
-    for (n, large) in [(0, 1), (1, 3)] {
-        let half = tcr >> (n * 16);
-        let granule = granule(half >> 14 & 3 == large);
-        let tbi = bit(tcr, 37 + n);
-        write!(out, "T{n}SZ={} TG{n}={granule}", half & 63)?;
-        write!(out, " EPD{n}={} TBI{n}={tbi} | ", bit(half, 7))?;
+impl Sctlr {
+    fn new(value: u64) -> Self {
+        Sctlr {
+            value: Hex(value),
+            m: bit(value, 0),
+            wxn: bit(value, 19),
+        }
     }
-    let ips = tcr >> 32 & 7;
-    writeln!(out, "IPS={ips} A1={} AS={}", bit(tcr, 22), bit(tcr, 36))
 }
 
-// TCR_EL2 and TCR_EL3: one range.
-fn tcr_single<W: Write>(out: &mut W, tcr: u64) -> io::Result<()> {
-    let granule = granule(tcr >> 14 & 3 == 1);
-    write!(out, "TCR        {tcr:016x}  ")?;
-    write!(out, "T0SZ={} TG0={granule}", tcr & 63)?;
-    writeln!(out, " TBI={} PS={}", bit(tcr, 20), tcr >> 16 & 7)
-}
-
-// TTBR0 or TTBR1.
-fn ttbr<W: Write>(out: &mut W, n: u64, ttbr: u64) -> io::Result<()> {
-    let (asid, base) = (ttbr >> 48, ttbr & 0xFFFF_FFFF_FFFF);
-    write!(out, "TTBR{n}      {ttbr:016x}")?;
-    writeln!(out, "  ASID={asid:x} base={base:x}")
-}
-
-/// The registers of a regime.
-pub fn show<W: Write>(out: &mut W, bank: Bank, regime: Regime) -> io::Result<()> {
-    let (sctlr, scr, hcr) = (bank.sctlr, bank.scr_el3, bank.hcr_el2);
-    write!(out, "SCTLR      {sctlr:016x}")?;
-    writeln!(out, "  M={} WXN={}", bit(sctlr, 0), bit(sctlr, 19))?;
-    if regime.is_single() {
-        tcr_single(out, bank.tcr)?;
-        return ttbr(out, 0, bank.ttbr0);
+impl Half {
+    // Of range n, whose granule is large by this TG.
+    fn new(tcr: u64, n: u64, large: u64) -> Self {
+        let half = tcr >> (n % 2 * 16);
+        Half {
+            tsz: half & 63,
+            tg: granule(half >> 14 & 3 == large),
+            epd: bit(half, 7),
+            tbi: bit(tcr, 37 + n % 2),
+        }
     }
-    tcr_el1(out, bank.tcr)?;
-    ttbr(out, 0, bank.ttbr0)?;
-    ttbr(out, 1, bank.ttbr1_el1)?;
-    write!(out, "SCR.NS={} HCR.TGE={}", bit(scr, 0), bit(hcr, 27))?;
-    writeln!(out, " HCR.DC={}", bit(hcr, 12))
+}
+
+impl Tcr {
+    fn new(value: u64) -> Self {
+        Tcr {
+            value: Hex(value),
+            lower: Half::new(value, 0, 1),
+            upper: Half::new(value, 1, 3),
+            ips: value >> 32 & 7,
+            a1: bit(value, 22),
+            wide: bit(value, 36),
+        }
+    }
+}
+
+impl SingleTcr {
+    fn new(value: u64) -> Self {
+        SingleTcr {
+            value: Hex(value),
+            t0sz: value & 63,
+            tg0: granule(value >> 14 & 3 == 1),
+            tbi: bit(value, 20),
+            ps: value >> 16 & 7,
+        }
+    }
+}
+
+impl Ttbr {
+    fn new(value: u64) -> Self {
+        Ttbr {
+            value: Hex(value),
+            asid: Hex(value >> 48),
+            base: Hex(value & 0xFFFF_FFFF_FFFF),
+        }
+    }
+}
+
+impl Registers {
+    pub(crate) fn new(bank: Bank, regime: Regime) -> Self {
+        let (sctlr, ttbr0) = (Sctlr::new(bank.sctlr), Ttbr::new(bank.ttbr0));
+        if regime.is_single() {
+            let tcr = SingleTcr::new(bank.tcr);
+            return Registers::Single(Single { sctlr, tcr, ttbr0 });
+        }
+        Registers::Shared(Shared {
+            sctlr,
+            tcr: Tcr::new(bank.tcr),
+            ttbr0,
+            ttbr1: Ttbr::new(bank.ttbr1_el1),
+            scr_ns: bit(bank.scr_el3, 0),
+            hcr_tge: bit(bank.hcr_el2, 27),
+            hcr_dc: bit(bank.hcr_el2, 12),
+        })
+    }
+}
+
+impl fmt::Display for Sctlr {
+    fn fmt<W: fmt::Write>(&self, f: &mut fmt::Formatter<W>) -> fmt::Result {
+        let Sctlr { value, m, wxn } = *self;
+        writeln!(f, "SCTLR      {:016x}  M={m} WXN={wxn}", value.0)
+    }
+}
+
+impl fmt::Display for Tcr {
+    fn fmt<W: fmt::Write>(&self, f: &mut fmt::Formatter<W>) -> fmt::Result {
+        write!(f, "TCR        {:016x}  ", self.value.0)?;
+        for (n, half) in [(0, self.lower), (1, self.upper)] {
+            let Half { tsz, tg, epd, tbi } = half;
+            write!(f, "T{n}SZ={tsz} TG{n}={tg} EPD{n}={epd} TBI{n}={tbi} | ")?;
+        }
+        writeln!(f, "IPS={} A1={} AS={}", self.ips, self.a1, self.wide)
+    }
+}
+
+impl fmt::Display for SingleTcr {
+    fn fmt<W: fmt::Write>(&self, f: &mut fmt::Formatter<W>) -> fmt::Result {
+        let SingleTcr {
+            t0sz,
+            tg0,
+            tbi,
+            ps,
+            ..
+        } = *self;
+        write!(f, "TCR        {:016x}  ", self.value.0)?;
+        writeln!(f, "T0SZ={t0sz} TG0={tg0} TBI={tbi} PS={ps}")
+    }
+}
+
+impl fmt::Display for Ttbr {
+    fn fmt<W: fmt::Write>(&self, f: &mut fmt::Formatter<W>) -> fmt::Result {
+        let Ttbr { value, asid, base } = *self;
+        writeln!(f, "{:016x}  ASID={:x} base={:x}", value.0, asid.0, base.0)
+    }
+}
+
+impl fmt::Display for Registers {
+    fn fmt<W: fmt::Write>(&self, f: &mut fmt::Formatter<W>) -> fmt::Result {
+        match self {
+            Registers::Shared(all) => {
+                write!(f, "{}{}", all.sctlr, all.tcr)?;
+                write!(f, "TTBR0      {}TTBR1      {}", all.ttbr0, all.ttbr1)?;
+                write!(f, "SCR.NS={} HCR.TGE={}", all.scr_ns, all.hcr_tge)?;
+                writeln!(f, " HCR.DC={}", all.hcr_dc)
+            }
+            Registers::Single(all) => {
+                write!(f, "{}{}TTBR0      {}", all.sctlr, all.tcr, all.ttbr0)
+            }
+        }
+    }
 }

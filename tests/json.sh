@@ -1,0 +1,102 @@
+#!/bin/sh
+# --json: what each command writes is JSON, a document on one line (of run one for each operation), and from it the lines of the text come out that hold its numbers.
+# Wants target/bin/a72 and python3. Its last line is 'json: N as expected, M otherwise'.
+set -u
+cd "$(dirname "$0")/.." || exit 1
+tool=${1-./a72}
+command -v python3 >/dev/null || { echo 'json.sh: python3 is missing: --json is not tested'; exit 0; }
+work=$(mktemp -d) || exit 1
+trap 'rm -rf "$work"' EXIT
+good=0
+bad=0
+pass() { good=$((good + 1)); }
+fail() { bad=$((bad + 1)); echo "differs: $1"; }
+
+# same COMMAND ..: each line that the JSON gives stands in the text, in order, and the two statuses are one. With EVERY=1 no line of the text is missing.
+same() {
+    "$tool" "$@" >"$work/text" 2>"$work/said"
+    status=$?
+    "$tool" "$@" --json >"$work/json" 2>"$work/err"
+    got=$?
+    python3 tests/texts_of_json.py "$1" <"$work/json" >"$work/lines" 2>"$work/why"
+    read=$?
+    sed 's/ *$//' "$work/text" >"$work/all"
+    [ "$1" != help ] || sed -i 's/^usage: //; s/^ *//' "$work/all" "$work/lines"
+    missing=$(diff "$work/lines" "$work/all" | grep -c '^<')
+    more=$(diff "$work/lines" "$work/all" | grep -c '^>')
+    if [ "$read" = 0 ] && [ -s "$work/lines" ] && [ "$got" = "$status" ] && [ "$missing" = 0 ] && [ ! -s "$work/err" ] && [ "$more" -le "${MORE-0}" ]; then
+        pass
+    else
+        fail "$* (status $got, of the text $status; lines of the text that are missing: $more)"
+        cat "$work/why" "$work/err" | tail -n 3
+        diff "$work/lines" "$work/all" | head -n 6
+    fi
+}
+
+# A line of the text for each document of a run, and each of its fields.
+for t in recorded/cases.trace recorded/leaves.trace recorded/census.trace recorded/mixed-1.trace; do same run "$t"; done
+for t in tests/names.trace tests/instrument.trace; do
+    same run "$t" --short
+    same run "$t" --words --full
+done
+for way in '' write fetch 'read 0' 'read 2' 'fetch 3'; do
+    # shellcheck disable=SC2086
+    for va in 100234 104000 1100000 ffffffffffff0000; do same walk tests/instrument.trace $va $way; done
+done
+for t in tests/*.trace; do
+    same walk "$t" 100234
+    same walk "$t" 0 read 2
+    same audit "$t" --all
+    MORE=4 same counters "$t"
+    MORE=3 same reads "$t" 2
+    MORE=1 same ranges "$t"
+    MORE=1 same ranges "$t" 0 1fffffff 2
+    MORE=3 same census "$t" 0 10000
+done
+same audit tests/audit.trace
+MORE=3 same reads tests/instrument.trace
+for range in '0 21' '123 0' '0 400 3' '0 400 2'; do
+    # shellcheck disable=SC2086
+    MORE=3 same census tests/instrument.trace $range
+done
+printf 'w-word 1455 ffffffffffffffff\nw-word 1459 ffffffffffffffff\nw-word 1458 1\n' >"$work/trace"
+MORE=4 same counters "$work/trace"
+MORE=10 same chord
+MORE=0 same help
+
+# refused STATUS DOCUMENT COMMAND ..: nothing is on standard output, and on standard error the document alone.
+refused() {
+    status=$1
+    document=$2
+    shift 2
+    "$tool" "$@" >"$work/out" 2>"$work/err"
+    got=$?
+    if [ "$got" = "$status" ] && [ ! -s "$work/out" ] && [ "$(cat "$work/err")" = "$document" ] && python3 -m json.tool <"$work/err" >/dev/null; then pass; else fail "$* (status $got): $(head -n 2 "$work/err")"; fi
+}
+
+printf 'level 1\nldd 0\n' >"$work/a \"trace\""
+refused 1 "{\"place\":\"$work/a \\\"trace\\\"\",\"line\":2,\"column\":1,\"reason\":\"no line of a trace has this name (the nearest is ld)\"}" run --json "$work/a \"trace\""
+refused 1 '{"place":"none","reason":"No such file or directory"}' audit none --json
+refused 1 '{"place":"--image","reason":"No such file or directory"}' run tests/page.trace --image none@0 --json
+refused 1 '{"reason":"LEVEL: 0, 1, 2 or 3"}' walk tests/page.trace 0 read 4 --json
+refused 1 '{"reason":"PAGES: more than 65536 pages (10000 hexadecimal)"}' census tests/page.trace 0 10001 --json
+refused 2 '{"reason":"no such command: runs (the nearest is run)"}' runs --json
+refused 2 '{"reason":"no such option: --long"}' run tests/page.trace --json --long
+refused 2 '{"reason":"--short is an option of run"}' --json walk tests/page.trace 0 --short
+refused 2 '{"reason":"census wants --svg or --json, and not both"}' census tests/page.trace 0 1 --svg --json
+refused 2 '{"reason":"no command"}' --json
+refused 2 '{"reason":"chord wants nothing more"}' chord --json x
+[ "$("$tool" --version --json)" = "{\"version\":\"$("$tool" --version | sed 's/^a72 //')\"}" ] && pass || fail '--version --json'
+"$tool" help --json >/dev/full 2>"$work/err"
+[ $? = 1 ] && [ "$(cat "$work/err")" = '{"place":"write","reason":"No space left on device"}' ] && pass || fail 'standard output that takes no more'
+
+# A count that a float does not hold is text.
+printf 'w-word 1455 20000000000000\nw-word 1456 1fffffffffffff\n' >"$work/trace"
+"$tool" counters "$work/trace" --json | grep -q '"entries":"9007199254740992".*"entries":9007199254740991' && pass || fail 'counts about 2^53'
+
+# A run is written as it goes: what came before a bad line of standard input is there.
+printf 'level 1\nworse\n' | "$tool" run - --short --json >"$work/out" 2>"$work/err"
+[ $? = 1 ] && [ "$(cat "$work/out")" = '{"line":1,"operation":"level 1","answer":{"kind":"done"}}' ] && grep -q '^{"place":"-","line":2,"column":1,' "$work/err" && pass || fail 'a bad line after a good one'
+
+echo "json: $good as expected, $bad otherwise"
+[ "$bad" -eq 0 ]
