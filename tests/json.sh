@@ -61,7 +61,7 @@ for range in '0 21' '123 0' '0 400 3' '0 400 2'; do
 done
 printf 'w-word 1455 ffffffffffffffff\nw-word 1459 ffffffffffffffff\nw-word 1458 1\n' >"$work/trace"
 MORE=4 same counters "$work/trace"
-MORE=10 same chord
+MORE=16 same chord
 MORE=0 same help
 
 # refused STATUS DOCUMENT COMMAND ..: nothing is on standard output, and on standard error the document alone.

@@ -234,6 +234,7 @@ def chord(documents):
     name = {'proved': 'the proved core:', 'stale_cache': 'a stale cache:', 'no_tlbi': 'firmware without TLBI:'}
     for c in d['changes']: yield '   %-22s %s' % (name[c['system']], heard(c))
     for t in d['orders']: yield '   %-22s %d orders, %s' % (name[t['system']], t['orders'], heard(t))
+    yield '   The stale cache loses a tone in %d orders. The first of them, where two held keys read one page:' % d['orders'][1]['wrong']
     for events in d['first_wrong'].values():
         for e in events:
             keys = ''.join('   .              ' if k is None else '   %-4s-> %-4s%s' % (k['note'], k['heard'], '    ' if k['note'] == k['heard'] else 'LOST') for k in e['keys'])

@@ -490,7 +490,6 @@ refused 1 'more than 65536 pages (10000 hexadecimal)' census "$layout" 0 fffffff
 refused 1 'the range passes 2^64' census "$layout" ffffffffffffffff 2
 refused 1 'LEVEL: 0, 1, 2 or 3' census "$layout" 0 10 4
 refused 2 'no such option: --png' census "$layout" 0 10 --png
-refused 2 'no such option: --json' census "$layout" 0 10 --json
 refused 2 'no such command: runn (the nearest is run)' runn "$layout"
 refused 2 'no such command: audti (the nearest is audit)' audti
 refused 2 'audit wants one TRACE' audit
