@@ -1,6 +1,6 @@
 #![tactic(auto)]
-//! The tool: traces on the proved core, the pages that read most, an audit of its cache, its counters by level, one translation step by step, a
-//! census of pages, and the chord.
+//! The tool: traces on the proved core, the pages that read most, an audit of its cache, its counters by level, one
+//! translation step by step, an address space as ranges, a census of pages, and the chord.
 mod arguments;
 mod commands;
 mod ranges;
