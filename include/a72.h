@@ -601,6 +601,15 @@ struct a72_fetch_hint {
 
 void a72_get_fetch_hint(a72_core *core, struct a72_fetch_hint *hint);
 
+/* ---- Sample frames of a number of cycles, without a core ---- */
+
+/* Whole frames at 48,000 and at 44,100 a second, of 1,500,000,000 cycles a second. What is left of the next frame is in
+ * *left, which is always written: at 48,000 in cycles, below 31,250; at 44,100 in 147ths of a cycle, below 5,000,000.
+ * Every number of cycles has its answer: at 48,000 it is whole * 31250 + *left, at 44,100 147 times it is
+ * whole * 5000000 + *left. */
+uint64_t a72_frames_48000(uint64_t cycles, uint64_t *left);
+uint64_t a72_frames_44100(uint64_t cycles, uint64_t *left);
+
 #ifdef __cplusplus
 }
 #endif

@@ -62,6 +62,11 @@ done
 printf 'w-word 1455 ffffffffffffffff\nw-word 1459 ffffffffffffffff\nw-word 1458 1\n' >"$work/trace"
 MORE=4 same counters "$work/trace"
 MORE=16 same chord
+for total in 0 1 31250 34014 1500034014 9007199254740991 9007199254740992 18446744073709551615; do
+    same frames $total
+    same frames $total 48000
+    same frames $total 44100
+done
 MORE=0 same help
 
 # refused STATUS DOCUMENT COMMAND ..: nothing is on standard output, and on standard error the document alone.
@@ -79,6 +84,7 @@ refused 1 "{\"place\":\"$work/a \\\"trace\\\"\",\"line\":2,\"column\":1,\"reason
 refused 1 '{"place":"none","reason":"No such file or directory"}' audit none --json
 refused 1 '{"place":"--image","reason":"No such file or directory"}' run tests/page.trace --image none@0 --json
 refused 1 '{"reason":"LEVEL: 0, 1, 2 or 3"}' walk tests/page.trace 0 read 4 --json
+refused 1 '{"reason":"TOTAL: not a decimal number of 64 bits"}' frames 1f --json
 refused 1 '{"reason":"PAGES: more than 65536 pages (10000 hexadecimal)"}' census tests/page.trace 0 10001 --json
 refused 2 '{"reason":"no such command: runs (the nearest is run)"}' runs --json
 refused 2 '{"reason":"no such option: --long"}' run tests/page.trace --json --long

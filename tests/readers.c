@@ -356,6 +356,19 @@ static void steps(void) {
     MUST(a72_step(none, core, BASE, ram, LEN, ans) == A72_NAMES_NOTHING && ans[0] == 7 && ans[4] == 7);
 }
 
+/* Sample frames: the last total of a frame and the first of the next, at each rate, and the largest total. */
+static void frames(void) {
+    uint64_t left = 7;
+    MUST(a72_frames_48000(0, &left) == 0 && left == 0);
+    MUST(a72_frames_48000(31249, &left) == 0 && left == 31249);
+    MUST(a72_frames_48000(31250, &left) == 1 && left == 0);
+    MUST(a72_frames_44100(34013, &left) == 0 && left == 4999911);
+    MUST(a72_frames_44100(34014, &left) == 1 && left == 58);
+    MUST(a72_frames_44100(1500000000, &left) == 44100 && left == 0);
+    MUST(a72_frames_48000(UINT64_MAX, &left) == UINT64_C(590295810358705) && left == 20365);
+    MUST(a72_frames_44100(UINT64_MAX, &left) == UINT64_C(542334275767060) && left == 4087405);
+}
+
 int main(void) {
     set_up();
     registers();
@@ -371,6 +384,7 @@ int main(void) {
     walk();
     census();
     steps();
+    frames();
     printf("%d readings as they must be, %d otherwise\n", tried - failed, failed);
     return failed != 0;
 }

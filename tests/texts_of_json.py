@@ -225,6 +225,16 @@ def ranges(documents):
     for m in d['memory']: yield '  Attr%d is %02x: %s' % (m['attrindx'], number(m['value']), m['memory'])
 
 
+def frames(documents):
+    d, = documents
+    named = lambda n, thing: '%d %s%s' % (n, thing, '' if n == 1 else 's')
+    yield named(int(d['cycles']), 'cycle')
+    for row in d['rates']:
+        parts = row['parts_of_a_cycle']
+        rest = named(row['rest'], 'cycle') if parts == 1 else '%d/%d of a cycle' % (row['rest'], parts)
+        yield '  %d a second  %s and %s' % (row['frames_a_second'], named(int(row['frames']), 'frame'), rest)
+
+
 def chord(documents):
     d, = documents
     heard = lambda h: '%d reads, %d tones lost' % (h['voices_read'], h['lost'])

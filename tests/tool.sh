@@ -79,7 +79,7 @@ a72/src/stop.rt: no command
 a72/src/stop.rt: the proved core lost a tone of the chord
 a72/src/stop.rt: out of memory
 UNSHOWN
-(cd crates && awk -v shown="$work/shown" -f ../tests/texts.awk manual_words/src/*.rt walk_report/src/*.rt census_report/src/*.rt counters_report/src/*.rt reads_report/src/*.rt ranges_report/src/*.rt chord/src/*.rt trace_file/src/*.rt \
+(cd crates && awk -v shown="$work/shown" -f ../tests/texts.awk manual_words/src/*.rt walk_report/src/*.rt census_report/src/*.rt counters_report/src/*.rt reads_report/src/*.rt ranges_report/src/*.rt frames_report/src/*.rt chord/src/*.rt trace_file/src/*.rt \
     a72/src/*.rt trace_text/src/reason.rt) | grep -vxF -f "$work/unshown" >"$work/told"
 [ ! -s "$work/told" ] && pass || { fail 'texts of the tool that no sample shows' && sed 's/^/    /' "$work/told"; }
 
@@ -441,12 +441,22 @@ refused 2 '--all is an option of audit' walk --all "$layout" 0
 refused 2 '--all is an option of audit' run "$layout" --all
 refused 2 '--all is an option of audit' chord --all
 refused 2 '--image is an option of the commands that take a TRACE' chord --image "$layout@0"
+refused 2 '--image is an option of the commands that take a TRACE' frames 1 --image "$layout@0"
+refused 2 '--short is an option of run' frames 1 --short
+refused 2 '--words is an option of run' frames 1 --words
+refused 2 '--full is an option of run' frames 1 --full
+refused 2 '--all is an option of audit' frames 1 --all
+refused 2 '--svg is an option of census' frames 1 --svg
 refused 2 'run wants --short or --words, and not both' run "$layout" --words --short
 refused 2 '--image stands twice' run "$layout" --image "$layout@0" --image "$layout@0"
 refused 2 'no such option: --image=x@0' run "$layout" --image=x@0
 refused 2 'no such option: --' run -- "$layout"
 refused 2 'no such command: aduit (the nearest is audit)' aduit "$layout" --svg
 for address in '' 0x -1 0x0x1 10000000000000000 ' 1' 1_0; do refused 1 'ADDRESS: not a hexadecimal number' walk "$layout" "$address"; done
+for total in '' +1 -1 1.5 0x10 ff 1_000 ' 1' 18446744073709551616; do refused 1 'TOTAL: not a decimal number of 64 bits' frames "$total"; done
+for rate in '' 48 44 48000.0 48000Hz +48000 96000; do refused 1 'the rate is 48000 or 44100 frames a second' frames 1 "$rate"; done
+refused 2 'frames wants a TOTAL' frames
+refused 2 'frames wants no more than a rate' frames 1 48000 44100
 for level in '' -1 0x4 el1 ffffffffffffffff; do refused 1 'LEVEL: 0, 1, 2 or 3' walk "$layout" 0 read "$level"; done
 for kind in '' Read exec 1; do refused 1 'read, write or fetch' walk "$layout" 0 "$kind"; done
 printf 'tr 1 0\nworse\n' >"$work/bad"
@@ -519,6 +529,23 @@ refused 1 'an argument is not text in UTF-8' run "$(printf 'a\377')"
 refused 2 'usage:' chord now
 refused 2 'usage:' tune
 refused 2 'usage:'
+
+# Sample frames beside the same in numbers of any length: edges of a frame, and totals of every length. Leading zeros count for nothing.
+if command -v python3 >/dev/null; then
+    python3 - >"$work/totals" <<'PYTHON'
+edges = [31250 * k + d for k in (1, 2, 48000, 590295810358705) for d in (-1, 0, 1)] + [-(-5000000 * k // 147) + d for k in (1, 2, 44100, 542334275767060) for d in (-1, 0, 1)]
+for total in [0, 1, 2**53 - 1, 2**53, 2**64 - 1] + edges + [3**k for k in range(40)]:
+    named = lambda n, thing: '%d %s%s' % (n, thing, '' if n == 1 else 's')
+    rows = ['%s and %s' % (named(total // 31250, 'frame'), named(total % 31250, 'cycle')), '%s and %d/147 of a cycle' % (named(total * 147 // 5000000, 'frame'), total * 147 % 5000000)]
+    print('%d|%s|  48000 a second  %s|  44100 a second  %s' % (total, named(total, 'cycle'), *rows))
+PYTHON
+    while IFS='|' read -r total head low high; do
+        printf '%s\n' "$head" "$low" "$high" >"$work/want"
+        "$tool" frames "00$total" 2>&1 | cmp -s - "$work/want" && pass || fail "frames $total"
+        printf '%s\n' "$head" "$high" >"$work/want"
+        "$tool" frames "$total" 44100 2>&1 | cmp -s - "$work/want" && pass || fail "frames $total 44100"
+    done <"$work/totals"
+fi
 
 # Help and version, on standard output.
 "$tool" help >"$work/help" 2>&1 && grep -q '^usage: a72 run TRACE' "$work/help" && pass || fail help

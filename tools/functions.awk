@@ -8,7 +8,7 @@ on {
 }
 
 function print_one(t, name, result, i, n, part) {
-    match(t, /a72_[a-z_]+/)
+    match(t, /a72_[a-z0-9_]+/)
     name = substr(t, RSTART, RLENGTH)
     result = t ~ /-> u64/ || t ~ /^ uint64_t/ ? "u64" : "-"
     sub(/^[^(]*\(/, "", t)

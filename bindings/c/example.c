@@ -1,5 +1,6 @@
 /* A core in C: tables that map pages to themselves, a load, a store, a fault that the guest takes, a TLBI, a census of the
- * pages, what the cache counted at each level, and of each access how many descriptors its walks read. */
+ * pages, what the cache counted at each level, and of each access how many descriptors its walks read; then a number of
+ * cycles as sample frames. */
 #include "a72.h"
 
 #include <inttypes.h>
@@ -94,6 +95,16 @@ static void census(uint64_t first, uint64_t pages) {
     printf(" flat %" PRIu64 "\n", counts[A72_COUNT_FLAT]);
 }
 
+/* A number of cycles as sample frames, at both rates. */
+static void frames(uint64_t cycles) {
+    uint64_t cycles_left, parts_left;
+    uint64_t whole_48000 = a72_frames_48000(cycles, &cycles_left);
+    uint64_t whole_44100 = a72_frames_44100(cycles, &parts_left);
+    printf("%" PRIu64 " cycles: %" PRIu64 " frames and %" PRIu64, cycles, whole_48000, cycles_left);
+    printf(" cycles at 48000 a second, %" PRIu64 " frames and %" PRIu64, whole_44100, parts_left);
+    printf("/147 of a cycle at 44100\n");
+}
+
 /* The cache, and the entry of a page. */
 static void show(uint64_t va) {
     struct a72_counters c = a72_get_counters(core);
@@ -132,5 +143,6 @@ int main(void) {
     a72_level(core, 1);
     census(BASE - 0x1000, 0x200);
     show(va);
+    frames(1500034014);
     return 0;
 }

@@ -19,6 +19,7 @@
 #![warn(missing_docs)]
 mod core;
 mod edit;
+mod frames;
 // The oracle has `held` and `library` too, and uses all of them.
 mod held;
 #[allow(dead_code)]
@@ -29,8 +30,9 @@ mod words;
 
 pub use crate::core::Core;
 pub use crate::edit::Edit;
+pub use crate::frames::Rate;
 pub use plain::{count, number, place, registers};
 pub use plain::{
-    Access, Broadcast, Census, Check, Counters, Entry, Exception, Fault, FetchHint, Flags, Hint, Level,
-    LevelCounters, Ram, Report, Rights, Status, Stop, SystemOperation, Width, MOST_PAGES, WORDS,
+    Access, Broadcast, Census, Check, Counters, Entry, Exception, Fault, FetchHint, Flags, Frames, Hint,
+    Level, LevelCounters, Ram, Report, Rights, Status, Stop, SystemOperation, Width, MOST_PAGES, WORDS,
 };

@@ -141,4 +141,6 @@ extern "C" {
     pub fn a72_get_entry(core: *mut Handle, slot: u64, entry: *mut [u64; 7]);
     pub fn a72_get_hint(core: *mut Handle, slot: u64, hint: *mut [u64; 2]);
     pub fn a72_get_fetch_hint(core: *mut Handle, hint: *mut [u64; 4]);
+    pub fn a72_frames_48000(cycles: u64, left: *mut u64) -> u64;
+    pub fn a72_frames_44100(cycles: u64, left: *mut u64) -> u64;
 }

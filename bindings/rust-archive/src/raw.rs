@@ -219,6 +219,24 @@ pub fn get_fetch_hint(core: &Held) -> [u64; 4] {
     hint
 }
 
+/// Whole frames, and what is left of the next.
+macro_rules! frames {
+    ($($name:ident $function:ident;)*) => {
+        $(#[inline]
+        pub fn $name(cycles: u64) -> (u64, u64) {
+            let mut left = 0;
+            // Sound: a local word.
+            let whole = unsafe { library::$function(cycles, &mut left) };
+            (whole, left)
+        })*
+    };
+}
+
+frames! {
+    frames_48000 a72_frames_48000;
+    frames_44100 a72_frames_44100;
+}
+
 pub fn set_pc(core: &mut Held, pc: u64) {
     // Sound: a core.
     unsafe { library::a72_set_pc(core.handle(), pc) }

@@ -104,6 +104,7 @@ pub use memory::Memory;
 pub use operation::{Access, Exception, Level, Status, Width};
 pub use place::WORDS;
 pub use ram::Ram;
+pub use stage1::frames::{Frames, Rate};
 pub use system_operation::SystemOperation;
 pub use view::{Broadcast, Counters, Entry, FetchHint, Flags, Hint, LevelCounters};
 pub use walk::{Mapping, Walk};

@@ -63,14 +63,21 @@ pub fn level(word: Option<&&str>) -> Result<Option<u64>, Stop> {
 // Rows of a table where a call does not say how many.
 const ROWS: usize = 20;
 
+/// A number of decimal digits alone.
+pub fn decimal(word: &str) -> Option<u64> {
+    if !word.bytes().all(|b| b.is_ascii_digit()) {
+        return None;
+    }
+    word.parse::<u64>().ok()
+}
+
 /// The number of rows that an argument says, in decimal.
 pub fn rows(word: Option<&&str>) -> Result<usize, Stop> {
     let Some(word) = word else {
         return Ok(ROWS);
     };
-    let digits = word.bytes().all(|b| b.is_ascii_digit());
-    match word.parse::<u32>() {
-        Ok(rows) if digits => Ok(rows as usize),
+    match decimal(word) {
+        Some(rows) if rows <= u32::MAX as u64 => Ok(rows as usize),
         _ => Err(Stop::Argument(Wrong::Rows)),
     }
 }
@@ -119,7 +126,7 @@ impl Options<'_> {
         if self.svg && command != "census" {
             return Some("--svg is an option of census");
         }
-        if self.image.is_some() && matches!(command, "chord" | "help") {
+        if self.image.is_some() && matches!(command, "chord" | "frames" | "help") {
             return Some("--image is an option of the commands that take a TRACE");
         }
         if self.svg && self.json {

@@ -1,10 +1,11 @@
 #![tactic(auto)]
 //! The tool: traces on the proved core, the pages that read most, an audit of its cache, its counters by level, one
-//! translation step by step, an address space as ranges, a census of pages, and the chord.
+//! translation step by step, an address space as ranges, a census of pages, cycles as sample frames, and the chord.
 mod arguments;
 mod commands;
 mod ranges;
 mod stop;
+mod totals;
 mod usage;
 
 use arguments::Arguments;

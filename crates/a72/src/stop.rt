@@ -18,10 +18,14 @@ use trace_file::report::{Message, Trouble};
 pub enum Wrong {
     #[error("{0}: not a hexadecimal number of 64 bits")]
     Number(&'static str),
+    #[error("{0}: not a decimal number of 64 bits")]
+    Decimal(&'static str),
     #[error("LEVEL: 0, 1, 2 or 3")]
     Level,
     #[error("N: not a decimal number of 32 bits")]
     Rows,
+    #[error("the rate is 48000 or 44100 frames a second")]
+    Rate,
     #[error("the kind of access is read, write or fetch")]
     Kind,
     #[error("{0}: File name too long")]

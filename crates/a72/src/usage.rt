@@ -5,8 +5,8 @@ use std::io::Write;
 use std::{fmt, io};
 use strsim::levenshtein;
 
-const COMMANDS: [&str; 9] = [
-    "run", "reads", "audit", "walk", "counters", "census", "ranges", "chord", "help",
+const COMMANDS: [&str; 10] = [
+    "run", "reads", "audit", "walk", "counters", "census", "ranges", "frames", "chord", "help",
 ];
 
 // What each command does.
@@ -31,6 +31,8 @@ census   carries out a trace, then shows how the PAGES pages of 4 KiB from FIRST
          fresh walk at the core's level, or as named: a table, and a map; --svg: the map as a picture.
 ranges   carries out a trace, then shows what the tables map, from FIRST to LAST (hexadecimal) or of all addresses, at
          the core's level, or as named: a row for each range of addresses that are mapped on and alike.
+frames   shows a TOTAL of cycles (decimal; 1500000000 are a second) as sample frames, at 48000 and 44100 frames a
+         second, or at one of them: whole frames, and exactly what is left of the next, in cycles or 147ths of one.
 chord    sixteen voices, a page each, and every order of a small chord: no tone is lost; against a stale
          cache, which loses one.
 
@@ -54,7 +56,7 @@ pub fn is_command(word: &str) -> bool {
 }
 
 // The calls.
-const CALLS: [&str; 9] = [
+const CALLS: [&str; 10] = [
     "a72 run TRACE [--short|--words] [--full]",
     "a72 reads TRACE [N]",
     "a72 audit TRACE [--all]",
@@ -62,6 +64,7 @@ const CALLS: [&str; 9] = [
     "a72 counters TRACE",
     "a72 census TRACE FIRST PAGES [LEVEL] [--svg]",
     "a72 ranges TRACE [FIRST LAST] [LEVEL]",
+    "a72 frames TOTAL [48000|44100]",
     "a72 chord",
     "with a TRACE: [--image FILE@ADDRESS]; anywhere: --json, -h, --help, --version",
 ];
@@ -84,7 +87,7 @@ pub struct Version {
 /// The calls, and what each command does.
 #[derive(Clone, Copy, Serialize)]
 pub struct Help {
-    calls: [&'static str; 9],
+    calls: [&'static str; 10],
     details: &'static str,
 }
 

@@ -22,6 +22,7 @@ use crate::number::FAULT;
 use crate::ffi::{boxed, saved, state_of, Held};
 use crate::rust::RustCore;
 use crate::{Core, Ram};
+use a72::Rate;
 use scene::Scene;
 use std::hint::black_box;
 
@@ -50,6 +51,8 @@ pub enum Work {
     Svc,
     /// The number of pages; the argument is the first address.
     Census(u64),
+    /// The argument is a number of cycles.
+    Frames(Rate),
 }
 
 /// One line of the table.
@@ -173,6 +176,12 @@ fn repeat(n: usize, args: [u64; 2], mut call: impl FnMut(u64) -> u64) -> u64 {
 fn told(counts: &Counts) -> u64 {
     let add = |sum: u64, n: &u64| sum.wrapping_mul(3).wrapping_add(*n);
     counts.iter().fold(0, add)
+}
+
+/// Whole frames, and what is left of the next, in the sum.
+#[inline(always)]
+fn both((whole, rest): (u64, u64)) -> u64 {
+    whole.wrapping_mul(3).wrapping_add(rest)
 }
 
 /// An answer without a value, and a fault's status, in the sum.

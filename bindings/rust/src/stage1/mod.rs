@@ -22,6 +22,7 @@ pub mod core_parts;
 pub mod cpu;
 pub mod exception;
 pub mod fault;
+pub mod frames;
 pub mod quick;
 pub mod saved;
 pub mod sysreg;

@@ -2,6 +2,7 @@
 use super::scene::{same_entry, same_hint, Scene, LOCAL, NOTHING, PAGE};
 use super::{Case, Work};
 use crate::count::MOST_PAGES;
+use a72::Rate;
 use pimu::aarch64::sysreg::key;
 
 const HINT: f64 = 1.05;
@@ -15,6 +16,7 @@ const FETCH_PA: f64 = 1.5;
 const ZEROING: f64 = 1.0;
 const EXCEPTION: f64 = 1.6;
 const CENSUS: f64 = 0.95;
+const FRAMES: f64 = 1.0;
 const LENT_HINT: f64 = 1.3;
 const LENT_ENTRY: f64 = 1.2;
 const LENT_WALK: f64 = 0.95;
@@ -88,6 +90,18 @@ fn lent() -> Vec<Case> {
     ]
 }
 
+/// A total of hours, and the largest.
+fn frames() -> Vec<Case> {
+    let frames = |name, rate| {
+        let totals = [0x1234_5678_9ABC, u64::MAX];
+        case(name, FRAMES, Work::Frames(rate), totals, scene())
+    };
+    vec![
+        frames("frames at 48,000 a second", Rate::Hz48000),
+        frames("frames at 44,100 a second", Rate::Hz44100),
+    ]
+}
+
 pub fn cases() -> Vec<Case> {
     [
         translations(),
@@ -98,6 +112,7 @@ pub fn cases() -> Vec<Case> {
         censuses(),
         lent(),
         second_page_faults(),
+        frames(),
     ]
     .into_iter()
     .flatten()

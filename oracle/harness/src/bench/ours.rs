@@ -1,10 +1,11 @@
 //! The library's side: its function for each operation, on a core.
-use super::{fault, repeat, summed, told, Work, DONE, STORED};
+use super::{both, fault, repeat, summed, told, Work, DONE, STORED};
 use crate::census::COUNTS;
-use crate::ffi::each::Lent;
+use crate::ffi::each::{frames_44100, frames_48000, Lent};
 use crate::ffi::{count, Held};
 use crate::library::Answer;
 use crate::Ram;
+use a72::Rate;
 use std::hint::black_box;
 
 pub fn run(work: Work, args: [u64; 2], core: &mut Held, ram: &mut Ram, n: usize) -> u64 {
@@ -60,6 +61,8 @@ pub fn run(work: Work, args: [u64; 2], core: &mut Held, ram: &mut Ram, n: usize)
         }
         Work::DataAbort => repeat(n, args, |addr| summed(lent.abort(&[5, addr, 1, 7]), DONE, 0)),
         Work::Census(_) => unreachable!("made above"),
+        Work::Frames(Rate::Hz48000) => repeat(n, args, |cycles| both(frames_48000(cycles))),
+        Work::Frames(Rate::Hz44100) => repeat(n, args, |cycles| both(frames_44100(cycles))),
         Work::Svc => repeat(n, args, |i| summed(lent.abort(&[1, i, 0, 0]), DONE, 0)),
     }
 }

@@ -1,10 +1,12 @@
 //! The plain core's side: its methods, each behind one call, as on the Rust's side.
-use super::{fault, repeat, Work, DONE, STORED};
+use super::{both, fault, repeat, Work, DONE, STORED};
 use crate::census::{COUNTS, FLAT, RIGHTS, STATUS};
 use crate::plain::access;
 use crate::Ram;
 use a72::registers::Key;
-use a72::{Access, Census, Core, Exception, Level, Ram as Window, Status, Stop, SystemOperation};
+use a72::{
+    Access, Census, Core, Exception, Frames, Level, Ram as Window, Rate, Status, Stop, SystemOperation,
+};
 use std::hint::black_box;
 
 #[inline(never)]
@@ -65,6 +67,11 @@ fn general(c: &mut Core, r: u32, v: u64) -> bool {
 #[inline(never)]
 fn census(c: &Core, m: &Window, first: u64, pages: u64) -> Result<Census, Stop> {
     c.census(m, first, pages)
+}
+
+#[inline(never)]
+fn frames(rate: Rate, cycles: u64) -> Frames {
+    rate.frames(cycles)
 }
 
 /// A fault's status; 0 where it is none.
@@ -141,6 +148,10 @@ pub fn run(work: Work, args: [u64; 2], c: &mut Core, ram: &mut Ram, n: usize) ->
         Work::Census(pages) => repeat(n, args, |first| match census(c, m, first, pages) {
             Ok(census) => told(&census),
             Err(_) => unreachable!(),
+        }),
+        Work::Frames(rate) => repeat(n, args, |cycles| {
+            let Frames { whole, rest } = frames(rate, cycles);
+            both((whole, rest))
         }),
         Work::Svc => repeat(n, args, |i| done(c.take(&Exception::Svc(i as u16)))),
     }

@@ -18,6 +18,23 @@ pub struct Lent<'a> {
     ram: &'a mut [u8],
 }
 
+/// Functions of a number of cycles: whole frames, and what is left of the next.
+macro_rules! frames {
+    ($($name:ident $function:ident;)*) => {
+        $(#[inline(always)]
+        pub fn $name(cycles: u64) -> (u64, u64) {
+            let mut left = 0;
+            // Sound: a local word.
+            (unsafe { $function(cycles, &mut left) }, left)
+        })*
+    };
+}
+
+frames! {
+    frames_48000 a72_frames_48000;
+    frames_44100 a72_frames_44100;
+}
+
 impl<'a> Lent<'a> {
     pub fn new(core: &'a mut Held, base: u64, ram: &'a mut [u8]) -> Lent<'a> {
         let core = core.handle();

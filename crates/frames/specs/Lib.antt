@@ -1,0 +1,3 @@
+-- What the contracts of `frames` cite.
+pub mod Frames
+pub mod Worked
