@@ -435,6 +435,8 @@ static inline uint64_t a72_get_par_el1(a72_core *core) { return a72_get(core, A7
 static inline uint64_t a72_get_ttbr1_el1(a72_core *core) { return a72_get(core, A72_TTBR1_EL1); }
 static inline uint64_t a72_get_scr_el3(a72_core *core) { return a72_get(core, A72_SCR_EL3); }
 static inline uint64_t a72_get_hcr_el2(a72_core *core) { return a72_get(core, A72_HCR_EL2); }
+static inline uint64_t a72_get_vpidr_el2(a72_core *core) { return a72_get(core, A72_VPIDR_EL2); }
+static inline uint64_t a72_get_vmpidr_el2(a72_core *core) { return a72_get(core, A72_VMPIDR_EL2); }
 
 /* A register of EL1, EL2 or EL3, by the key of EL1's; zero for any other level. */
 static inline uint64_t a72_get_by_level(a72_core *core, uint64_t key, uint64_t level) {

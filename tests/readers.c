@@ -67,6 +67,7 @@ static void registers(void) {
     MUST(a72_register(c, A72_HCR_EL2, UINT64_C(1) << 31) == A72_DONE && a72_get_hcr_el2(c) >> 31 & 1);
     MUST(a72_register(c, A72_PAR_EL1, 0x77) == A72_DONE && a72_get_par_el1(c) == 0x77);
     MUST(a72_get_register(c, A72_VPIDR_EL2, &value) == A72_DONE && value == 0x410FD083);
+    MUST(a72_get_vpidr_el2(c) == value && a72_get_vmpidr_el2(c) == a72_get(c, A72_VMPIDR_EL2));
     MUST(a72_get_register(c, A72_KEY(3, 0, 0, 0, 0), &value) == A72_CHECK_KEY && value == 0x410FD083);
     MUST(a72_get(c, A72_KEY(3, 0, 0, 0, 0)) == 0 && a72_get(c, A72_FAR_EL2) == 0x66);
     MUST(a72_get_esr(c, 0) == 0 && a72_get_esr(c, 4) == 0);

@@ -1,5 +1,5 @@
 //! What an operation reports, and what stops it.
-use crate::number::{UNDEFINED, UNIMPLEMENTED, status};
+use crate::number::{FAULT, UNDEFINED, UNIMPLEMENTED, status};
 use crate::operation::{Access, Exception, Status};
 use core::fmt::{self, Display, Formatter};
 
@@ -113,10 +113,36 @@ impl Stop {
         }
     }
 
-    /// By a number that the core has just given.
-    #[cold]
+    /// By a number that the core has just given: a fault's is the first to be asked for, since a guest makes many.
+    #[inline(always)]
     pub(crate) fn of(number: u64, access: Access, address: u64) -> Stop {
-        Stop::from_number(number, access, address).expect("a number that stops an operation")
+        if number < FAULT {
+            return Stop::not_done(number);
+        }
+        let status = Status(number as u8);
+        Stop::Fault(Fault {
+            access,
+            address,
+            status,
+        })
+    }
+
+    /// By a number below a fault's.
+    #[cold]
+    fn not_done(number: u64) -> Stop {
+        Stop::from_number(number, Access::Read, 0).expect("a number that stops an operation")
+    }
+
+    /// The same of a setting, which has few: where its checks are in line, so is what it gives.
+    #[inline(always)]
+    pub(crate) fn refused(number: u64) -> Stop {
+        match number {
+            1 => Stop::Refused(Check::Level),
+            5 => Stop::Refused(Check::Number),
+            6 => Stop::Refused(Check::Key),
+            UNDEFINED => Stop::Undefined,
+            n => Stop::not_done(n),
+        }
     }
 }
 

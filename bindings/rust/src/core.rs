@@ -15,10 +15,12 @@ use core::fmt::{self, Debug, Formatter};
 
 /// One core: its registers, its cache of translations and their counters, some 41 KB. Nothing of it can be written
 /// past a method, so that no write skips what the cache has to forget.
+#[repr(C)]
 pub struct Core {
-    pub(crate) core: cpu::Core,
-    /// What the last operation gave, which is no part of what the core holds. Its value may be of one before.
+    /// What the last operation gave, which is no part of what the core holds. Its value may be of one before. It is
+    /// first, since every operation writes it: its place is then a short one.
     pub(crate) answer: Answer,
+    pub(crate) core: cpu::Core,
 }
 
 /// A clone holds the same, and has done nothing yet.
@@ -80,7 +82,7 @@ impl Core {
     }
 
     /// An operation is stopped. Of one that is refused no answer was written, and it read nothing.
-    #[cold]
+    #[inline(always)]
     pub(crate) fn stop(&mut self, number: u64, access: Access, address: u64) -> Stop {
         if number < FAULT {
             self.answer.reads = 0;
@@ -89,12 +91,12 @@ impl Core {
     }
 
     /// The end of an operation that gives nothing but success, and translates nothing.
-    #[inline]
+    #[inline(always)]
     fn done(&mut self, number: u64) -> Result<(), Stop> {
         self.answer.reads = 0;
         match number {
             DONE => Ok(()),
-            n => Err(Stop::of(n, Access::Read, 0)),
+            n => Err(Stop::refused(n)),
         }
     }
 

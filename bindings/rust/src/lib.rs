@@ -84,6 +84,7 @@ pub mod embedding {}
 mod memory;
 pub mod number;
 mod operation;
+mod over_two;
 pub mod place;
 mod ram;
 pub mod registers;

@@ -16,6 +16,18 @@ impl<'a> Ram<'a> {
         Ram { base, bytes }
     }
 
+    /// Whether a byte lies inside.
+    pub(crate) fn holds(&self, address: u64) -> bool {
+        address.wrapping_sub(self.base) < self.bytes.len() as u64
+    }
+
+    /// The bytes at a physical address, if every one is inside.
+    pub(crate) fn part(self, address: u64, size: u64) -> Option<&'a mut [u8]> {
+        let at = usize::try_from(address.checked_sub(self.base)?).ok()?;
+        let end = at.checked_add(usize::try_from(size).ok()?)?;
+        self.bytes.get_mut(at..end)
+    }
+
     /// Where eight bytes at a physical address lie, if every one is inside.
     fn at(&self, address: u64) -> Option<usize> {
         let at = usize::try_from(address.checked_sub(self.base)?).ok()?;

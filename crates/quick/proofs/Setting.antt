@@ -151,6 +151,14 @@ module _ (c : Core) where
               set-tells c base ram (General n v) (set_reg c n v) Done 0 w refl (rw (le-ltb 3 c.privilege.level (omega arith), le-ltb 31 n (omega arith)) refl) refl refl refl;
         }
 
+    -- register 31 takes nothing
+    unset : n ≡ 31 → c ≡ set_reg c n v
+    unfolding set_reg
+    unset e = rw e refl
+
+    pub general-none : c.privilege.level < 4 → n ≡ 31 → Sets (Known (General n v)) c 0 c
+    general-none h e = becomes _ c 0 c (set_reg c n v) (unset e) (general-set h (omega (arith, e)))
+
     pub general-high : 3 < c.privilege.level → Sets (Known (General n v)) c 1 c
     unfolding step_of run_of run_work missed_of
     general-high h = record { on = λ base ram w. set-tells c base ram (General n v) c (Refused 1) 1 w refl (rw (lt-ltb 3 c.privilege.level h) refl) refl refl refl }

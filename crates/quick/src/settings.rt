@@ -58,11 +58,14 @@ pub fn general(core: &mut Core, number: u64, value: u64) -> u64
     if 3 < core.privilege.level {
         return 1;
     }
-    if 31 < number {
-        return 5;
+    if number < 31 {
+        core.set_reg(number, value);
+        0
+    } else if number == 31 {
+        0
+    } else {
+        5
     }
-    core.set_reg(number, value);
-    0
 }
 
 /// Abort entry.

@@ -67,13 +67,15 @@ fn second_page_faults() -> Vec<Case> {
         hole: Some(PAGE + 1),
         ..scene()
     };
-    vec![case(
+    let case = case(
         "load 8: split, second page faults",
         None,
         Work::Load(8),
         across,
         hole,
-    )]
+    );
+    // pimu judges no byte of the first page there.
+    vec![Case { plain: None, ..case }]
 }
 
 /// Translations again, under the bars of a core that was lent by reference inside the library.

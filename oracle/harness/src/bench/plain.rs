@@ -50,18 +50,18 @@ fn register(c: &mut Core, key: Key, v: u64) -> Result<(), Stop> {
 }
 
 #[inline(never)]
-fn level(c: &mut Core, level: Level) -> bool {
-    c.set_level(level).is_ok()
+fn level(c: &mut Core, level: Level) {
+    assert!(c.set_level(level).is_ok());
 }
 
 #[inline(never)]
-fn mark(c: &mut Core, on: bool) -> bool {
-    c.set_unprivileged(on).is_ok()
+fn mark(c: &mut Core, on: bool) {
+    assert!(c.set_unprivileged(on).is_ok());
 }
 
 #[inline(never)]
-fn general(c: &mut Core, r: u32, v: u64) -> bool {
-    c.set_general(r.into(), v).is_ok()
+fn general(c: &mut Core, r: u32, v: u64) {
+    assert!(c.set_general(r.into(), v).is_ok());
 }
 
 #[inline(never)]
@@ -135,9 +135,18 @@ pub fn run(work: Work, args: [u64; 2], c: &mut Core, ram: &mut Ram, n: usize) ->
             let key = Key::from(u64::from(key));
             repeat(n, args, |v| done(register(c, key, v)))
         }
-        Work::Level => repeat(n, args, |l| level(c, Level::from(l)).into()),
-        Work::Mark => repeat(n, args, |on| mark(c, on != 0).into()),
-        Work::General(r) => repeat(n, args, |v| general(c, r, v).into()),
+        Work::Level => repeat(n, args, |l| {
+            level(c, Level::from(l));
+            DONE
+        }),
+        Work::Mark => repeat(n, args, |on| {
+            mark(c, on != 0);
+            DONE
+        }),
+        Work::General(r) => repeat(n, args, |v| {
+            general(c, r, v);
+            DONE
+        }),
         Work::DataAbort => repeat(n, args, |address| {
             done(c.take(&Exception::DataAbort {
                 address,

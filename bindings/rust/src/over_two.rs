@@ -1,0 +1,99 @@
+//! Loads and stores over two pages, of which the window of RAM does not hold all bytes, and a region holds some.
+use crate::answer::{Fault, Stop};
+use crate::core::Core;
+use crate::memory::{EXTERNAL, Memory};
+use crate::operation::{Access, Width};
+use crate::stage1::cpu::place::{self, Pages};
+
+/// The byte of RAM at a physical address, in the window or in a region.
+fn byte(memory: &mut (impl Memory + ?Sized), pa: u64) -> Option<&mut u8> {
+    let ram = if memory.ram().holds(pa) {
+        memory.ram()
+    } else {
+        memory.region(pa)?
+    };
+    ram.part(pa, 1)?.first_mut()
+}
+
+/// What of an access is there: the places of its bytes, how many of them a store writes, and what stops it.
+struct Found {
+    pages: Pages,
+    moved: u64,
+    stop: Option<Stop>,
+}
+
+impl Core {
+    /// Both pages are translated again, as they were before, and the bytes judged one by one, as the core does: the lowest
+    /// that no RAM holds stops the access, before a fault of the second page; and where a page faults no byte moves.
+    fn found(
+        &mut self,
+        memory: &mut (impl Memory + ?Sized),
+        va: u64,
+        width: Width,
+        access: Access,
+    ) -> Result<Found, Stop> {
+        let fault = |address, status| {
+            Stop::Fault(Fault {
+                access,
+                address,
+                status,
+            })
+        };
+        let reads = self.answer.reads;
+        let first = self.translate(&memory.ram(), va, access);
+        let second = self.translate(&memory.ram(), place::next_page(va), access);
+        // The report is of the first time.
+        self.answer.reads = reads;
+        let (size, in_page) = (width as u64, place::in_page(va));
+        let pages = Pages {
+            in_page,
+            pa: first?,
+            pa2: second.unwrap_or(0),
+        };
+        let mapped = if second.is_ok() { size } else { in_page };
+        let lacking = (0..mapped).find(|&i| byte(memory, pages.byte_at(i)).is_none());
+        let external = lacking.map(|i| {
+            self.core.abort_pa = pages.byte_at(i);
+            fault(va.wrapping_add(i), EXTERNAL)
+        });
+        let moved = match second {
+            Ok(_) => lacking.unwrap_or(size),
+            Err(_) => 0,
+        };
+        let stop = external.or(second.err());
+        Ok(Found { pages, moved, stop })
+    }
+
+    pub(crate) fn load_over_two(
+        &mut self,
+        memory: &mut (impl Memory + ?Sized),
+        va: u64,
+        width: Width,
+    ) -> Result<u64, Stop> {
+        let found = self.found(memory, va, width, Access::Read)?;
+        if let Some(stop) = found.stop {
+            return Err(stop);
+        }
+        let mut value = [0; 8];
+        for (i, to) in (0..found.moved).zip(&mut value) {
+            *to = byte(memory, found.pages.byte_at(i)).map_or(0, |from| *from);
+        }
+        Ok(u64::from_le_bytes(value))
+    }
+
+    pub(crate) fn store_over_two(
+        &mut self,
+        memory: &mut (impl Memory + ?Sized),
+        va: u64,
+        width: Width,
+        value: u64,
+    ) -> Result<(), Stop> {
+        let found = self.found(memory, va, width, Access::Write)?;
+        for (i, from) in (0..found.moved).zip(value.to_le_bytes()) {
+            if let Some(to) = byte(memory, found.pages.byte_at(i)) {
+                *to = from;
+            }
+        }
+        found.stop.map_or(Ok(()), Err)
+    }
+}
