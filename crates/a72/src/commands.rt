@@ -130,7 +130,7 @@ fn reads<R: Files + Input + AllocGlobal, W: Write>(
     let rows = arguments::rows(rest.first())?;
     let mut counted = Counted::new(rt.alloc());
     run::run(rt, arguments.trace(path)?, &mut counted)?;
-    let pages = Report::new(rt.alloc(), &mut counted.pages, rows)?;
+    let pages = Report::new(rt.alloc(), &counted.pages, rows)?;
     report(out, rt.alloc(), arguments.options.json, &pages)?;
     Ok(())
 }

@@ -1,17 +1,16 @@
 -- Sums over rows: of the first and of the others, and where an operation is counted.
-use Rattle.std.specs.Prelude.{if◌then◌else◌, ◌≡◌, refl, true, false, ℕ, ◌+◌, ◌%◌, ◌^◌, ◌<◌, ◌==◌, ◌&&◌, ◌∷◌, [], ◌++◌, Bool, List, length, take, drop, Option, Some, None, slice_set, slice_index_or, sum_by}
+use Rattle.std.specs.Prelude.{if◌then◌else◌, ◌≡◌, refl, true, false, ℕ, ◌+◌, ◌%◌, ◌^◌, ◌<◌, ◌==◌, ◌∷◌, [], ◌++◌, Bool, List, length, take, drop, Option, Some, None, slice_set, slice_index_or, sum_by, option_map}
 use Rattle.std.specs.List.{position}
 use Rattle.std.proofs.Common.{arith, ap, sym, ◌∙◌}
-use Rattle.std.proofs.lemmas.Bool.{eqb-true}
 use Rattle.std.proofs.lemmas.List.Sums.{sum_by-take-drop, sum_by-set, sum_by_push}
 use Rattle.std.proofs.lemmas.List.Quantifiers.{position-Some}
-use Rattle.word.proofs.BitLaws.{both}
-use Rattle.sysreg.specs.declared.regs.Regime.{Regime}
-use Rattle.sysreg.specs.declared.regs.Regime.TheVariants.{El1, El2, El3}
-use Rattle.tlb.specs.Model.{same_regime}
-use Rattle.reads_report.specs.Rows.{same, begun, more, noted, noted_at, operations_in, descriptors_in, descriptors_of, of_level}
+use Rattle.reads_report.specs.Rows.{same, begun, more, noted, noted_at}
 use Rattle.reads_report.specs.Counting.{Counts}
-use Rattle.reads_report.specs.declared.pages.{Page.Page, Row.Row}
+use Rattle.reads_report.specs.Named.{system_page, in_its_regime}
+use Rattle.cpu.specs.Core.{reg_of}
+use Rattle.system.specs.declared.decode.SysOp.{SysOp}
+use Rattle.reads_report.specs.declared.rows.{Page.Page, Row.Row}
+use Rattle.reads_report.proofs.Same.{is-page}
 
 -- the first rows and the others are all
 pub first_and_others : (f : Row → ℕ) (rows : List Row) (n : ℕ)
@@ -30,41 +29,19 @@ push-row f rows d y e = omega (arith, sum_by_push f rows y, e)
 
 -- An operation at a page adds to a sum what it adds to any row of the page.
 adds : (f : Row → ℕ) (p : Page) (n d : ℕ) (rows : List Row)
-    → ((r : Row) → same r.page p ≡ true → f (more n r) % 2 ^ 64 ≡ (f r + d) % 2 ^ 64)
+    → ((r : Row) → same p r.page ≡ true → f (more n r) % 2 ^ 64 ≡ (f r + d) % 2 ^ 64)
     → f (more n (begun p)) % 2 ^ 64 ≡ d % 2 ^ 64
     → sum_by f (noted p n rows) % 2 ^ 64 ≡ (sum_by f rows % 2 ^ 64 + d) % 2 ^ 64
-adds f p n d rows h b = go (position (λ (r : Row). same r.page p) rows) refl
+adds f p n d rows h b = go (position (λ (r : Row). same p r.page) rows) refl
   where
-    go : (o : Option ℕ) → position (λ (r : Row). same r.page p) rows ≡ o
+    go : (o : Option ℕ) → position (λ (r : Row). same p r.page) rows ≡ o
         → sum_by f (noted_at o p n rows) % 2 ^ 64 ≡ (sum_by f rows % 2 ^ 64 + d) % 2 ^ 64
     go (Some place) e =
-        let at = position-Some (λ (r : Row). same r.page p) rows place (begun p) e in
+        let at = position-Some (λ (r : Row). same p r.page) rows place (begun p) e in
         set-row f rows place d (more n (slice_index_or rows place (begun p))) (begun p) at.0 (h (slice_index_or rows place (begun p)) at.1)
     go None e = push-row f rows d (more n (begun p)) b
 
 -- WHERE IT IS COUNTED
-
--- what is one page is equal
-is-regime : (r s : Regime) → same_regime r s ≡ true → r ≡ s
-is-regime El1 El1 h = refl
-is-regime El2 El2 h = refl
-is-regime El3 El3 h = refl
-is-regime El1 El2 h = cc
-is-regime El1 El3 h = cc
-is-regime El2 El1 h = cc
-is-regime El2 El3 h = cc
-is-regime El3 El1 h = cc
-is-regime El3 El2 h = cc
-
-is-page : (a p : Page) → same a p ≡ true → a ≡ p
-is-page a p h =
-    let x = both (a.level == p.level) (same_regime a.regime p.regime && a.number == p.number) h in
-    let y = both (same_regime a.regime p.regime) (a.number == p.number) x.1 in
-    λ i. record {
-      level = eqb-true a.level p.level x.0 i;
-      regime = is-regime a.regime p.regime y.0 i;
-      number = eqb-true a.number p.number y.1 i;
-    }
 
 gained : (b : Bool) (x n : ℕ) → (if b then (x + n) % 2 ^ 64 else 0) % 2 ^ 64 ≡ ((if b then x else 0) + (if b then n else 0)) % 2 ^ 64
 gained true x n = omega arith
@@ -76,7 +53,7 @@ adds_where : (t : Page → Bool) (p : Page) (n : ℕ) (rows : List Row)
     ≡ (sum_by (λ (r : Row). if t r.page then r.descriptors else 0) rows % 2 ^ 64 + (if t p then n else 0)) % 2 ^ 64
 adds_where t p n rows =
     adds (λ (r : Row). if t r.page then r.descriptors else 0) p n (if t p then n else 0) rows
-    (λ r h. gained (t r.page) r.descriptors n ∙ ap (λ (x : Page). ((if t r.page then r.descriptors else 0) + (if t x then n else 0)) % 2 ^ 64) (is-page r.page p h))
+    (λ r h. gained (t r.page) r.descriptors n ∙ ap (λ (x : Page). ((if t r.page then r.descriptors else 0) + (if t x then n else 0)) % 2 ^ 64) (sym (is-page p r.page h)))
     (gained (t p) 0 n ∙ begins (t p))
   where
     begins : (b : Bool) → ((if b then 0 else 0) + (if b then n else 0)) % 2 ^ 64 ≡ (if b then n else 0) % 2 ^ 64
@@ -90,3 +67,6 @@ counts p n rows = record {
   page = λ q. adds_where (λ x. same x q) p n rows;
   level = λ l. adds_where (λ x. x.level == l) p n rows;
 }
+
+pub at_regime : in_its_regime
+at_regime c e form o = ap (λ (x : SysOp). option_map (λ (p : Page). p.regime) (system_page c x (reg_of c e.rt))) o

@@ -1,7 +1,7 @@
 -- What an operation that is counted changes.
 use Rattle.std.specs.Prelude.{if◌then◌else◌, ◌≡◌, ℕ, ◌+◌, ◌%◌, ◌^◌, ◌==◌, List}
 use Rattle.reads_report.specs.Rows.{same, noted, operations_in, descriptors_in, descriptors_of, of_level}
-use Rattle.reads_report.specs.declared.pages.{Page.Page, Row.Row}
+use Rattle.reads_report.specs.declared.rows.{Page.Page, Row.Row}
 
 pub record Counts (p : Page) (n : ℕ) (rows : List Row) : Type 0 where
   -- the sums grow by one operation and by what it read

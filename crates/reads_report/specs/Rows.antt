@@ -1,12 +1,12 @@
 -- Pages and the descriptors that walks of them read, counted modulo 2^64.
 use Rattle.std.specs.Prelude.{if◌then◌else◌, ℕ, ◌+◌, ◌%◌, ◌^◌, ◌==◌, ◌&&◌, Bool, List, [], ◌∷◌, ◌++◌, Option, Some, None, slice_set, slice_index_or, sum_by}
 use Rattle.std.specs.List.{position}
-use Rattle.tlb.specs.Model.{same_regime}
-use Rattle.reads_report.specs.declared.pages.{Page.Page, Row.Row}
+use Rattle.sysreg.specs.Regs.{index_of}
+use Rattle.reads_report.specs.declared.rows.{Page.Page, Row.Row}
 
 -- whether two are one page
 abbrev pub same : Page → Page → Bool
-same p q = p.level == q.level && (same_regime p.regime q.regime && p.number == q.number)
+same p q = p.level == q.level && (index_of p.regime == index_of q.regime && p.number == q.number)
 
 -- A ROW MORE
 
@@ -23,7 +23,7 @@ noted_at None p n rows = rows ++ more n (begun p) ∷ []
 
 -- an operation is counted in its page's row, which begins at 0 and behind the others
 abbrev pub noted : Page → ℕ → List Row → List Row
-noted p n rows = noted_at (position (λ (r : Row). same r.page p) rows) p n rows
+noted p n rows = noted_at (position (λ (r : Row). same p r.page) rows) p n rows
 
 -- SUMS
 

@@ -3,4 +3,5 @@
 pub mod named;
 pub mod pages;
 pub mod report;
+pub mod rows;
 pub mod theorems;

@@ -2,7 +2,7 @@
 ghost use Rattle.std.specs.Prelude.{◌≡◌};
 ghost use Rattle.reads_report.specs.Named.{named, page_of};
 
-use crate::pages::Page;
+use crate::rows::Page;
 use cpu::Core;
 use cpu::call::Call;
 use sysreg::regs::Regime;

@@ -1,5 +1,6 @@
 //! What `a72 reads` shows: a row for each page, with a bar, those that read most first; the others; and all.
-use crate::pages::{Page, Pages, Row, Sums};
+use crate::pages::Pages;
+use crate::rows::{Page, Row, Sums};
 use counters_report::share::Share;
 use json_text::{Count, Hex};
 use serde::Serialize;
@@ -86,17 +87,17 @@ impl Several {
 }
 
 impl Report {
-    pub fn new(alloc: Global, pages: &mut Pages, most: usize) -> Result<Self, AllocError> {
-        pages.order()?;
-        let sums = pages.all();
+    pub fn new(alloc: Global, pages: &Pages, most: usize) -> Result<Self, AllocError> {
+        let ranked = pages.ranked()?;
+        let sums = ranked.all();
         let all = sums.descriptors;
         let mut rows = Vec::new(alloc);
-        for row in pages.first(most) {
+        for row in ranked.first(most) {
             rows.push(OnePage::new(row, all))?;
         }
         Ok(Report {
             rows,
-            others: Several::new(pages.others(most), all),
+            others: Several::new(ranked.others(most), all),
             all: Several::new(sums, all),
         })
     }

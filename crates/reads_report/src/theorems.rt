@@ -1,8 +1,9 @@
 //! What holds of the counting: each function computes nothing, and its contract is the theorem.
 ghost use Rattle.std.specs.Prelude.{◌≡◌, ℕ, ◌+◌, ◌%◌, ◌^◌, List, drop, take};
 ghost use Rattle.reads_report.specs.Counting.{Counts};
+ghost use Rattle.reads_report.specs.Named.{in_its_regime};
 ghost use Rattle.reads_report.specs.Rows.{descriptors_in, operations_in};
-ghost use Rattle.reads_report.specs.declared.pages.{Page.Page, Row.Row};
+ghost use Rattle.reads_report.specs.declared.rows.{Page.Page, Row.Row};
 
 /// An operation is counted once, with all that it read, at its page and its level alone.
 pub fn counting_of_operations()
@@ -16,4 +17,10 @@ pub fn sums_of_rows()
         → (operations_in (take n rows) + operations_in (drop n rows)) % 2 ^ 64 ≡ operations_in rows }
     ensures descriptors { (rows : List Row) (n : ℕ)
         → (descriptors_in (take n rows) + descriptors_in (drop n rows)) % 2 ^ 64 ≡ descriptors_in rows }
+{}
+
+/// An AT is counted in the regime that it names, whatever the level's own.
+#[tactic(auto, using(crate::proofs::Laws::at_regime))]
+pub fn regimes_of_operations()
+    ensures { in_its_regime }
 {}
