@@ -1,5 +1,5 @@
 -- Laws of an answer with stage 1 off.
-use Rattle.std.specs.Prelude.{if◌then◌else◌, ◌≡◌, nat_lt, refl, Bool, true, false, ℕ, ◌^◌, ◌<◌, ◌≤◌, Some, None, Ok, Err, Option}
+use Rattle.std.specs.Prelude.{◌≡◌, nat_lt, refl, Bool, true, false, ℕ, ◌^◌, ◌<◌, ◌≤◌, Some, None, Ok, Err, Option}
 use Rattle.std.proofs.Common.{arith, sym, ap, ◌∙◌}
 use borrow.Author.Tests.{lt-ltb, le-ltb, ltb-true, ltb-false}
 use Rattle.walk.specs.Flat.{flat_by}
@@ -9,7 +9,6 @@ use Rattle.sysreg.specs.declared.regs.Regime.{Regime}
 use Rattle.fault.specs.First.{first}
 use Rattle.fault.specs.declared.Fault.{Fault}
 use Rattle.tlb.specs.Access.{flat_end, flat_answer}
-use Rattle.tlb.specs.Answers.{Answer}
 
 pub flat-fits : (u : ℕ) → u < 2 ^ 44 → flat_answer u ≡ Ok u
 flat-fits u h = rw (lt-ltb u (2 ^ 44) h)
@@ -19,19 +18,11 @@ flat-large u h = rw (le-ltb u (2 ^ 44) h)
 
 -- an address is given to itself alone, and not from 2^44 on
 pub flat-given : (u pa : ℕ) → flat_answer u ≡ Ok pa → (u ≡ pa) × (u < 2 ^ 44)
-flat-given u pa = go (nat_lt u (2 ^ 44)) refl
-  where
-    go : (b : Bool) → nat_lt u (2 ^ 44) ≡ b → ◌≡◌ {A = Answer} (flat_end (if b then Some u else None)) (Ok pa) → (u ≡ pa) × (u < 2 ^ 44)
-    go true h e = (cc, ltb-true u (2 ^ 44) h)
-    go false h e = let z : ◌≡◌ {A = ℕ} 0 1 = cc in absurd (omega arith)
+flat-given u pa = grind arith
 
 -- and there is one fault
 pub flat-failed : (u : ℕ) (f : Fault) → flat_answer u ≡ Err f → f ≡ first 0
-flat-failed u f = go (nat_lt u (2 ^ 44))
-  where
-    go : (b : Bool) → ◌≡◌ {A = Answer} (flat_end (if b then Some u else None)) (Err f) → f ≡ first 0
-    go true e = let z : ◌≡◌ {A = ℕ} 0 1 = cc in absurd (omega arith)
-    go false e = cc
+flat-failed u f = grind arith
 
 -- an address that is small as it stands has no tag
 pub flat-raw : (tcr : ℕ) (r : Regime) (va pa : ℕ) (x : Option ℕ) → va < 2 ^ 64 → x ≡ flat_by va → x ≡ Some pa → flat_answer (untagged tcr r va) ≡ Ok pa

@@ -1,7 +1,9 @@
 -- What holds of each element, an element after a store, a turn of a loop that maps every element. No list is unfolded.
-use Rattle.std.specs.Prelude.{if◌then◌else◌, ◌≡◌, ℕ, zero, suc, ◌+◌, ◌<◌, Bool, true, false, List, [], ◌∷◌, map, length, replicate, ◌==◌, slice_index_or, slice_set, refl}
-use Rattle.std.proofs.Common.{ap, add-one, not-suc-le-zero, le_of_suc-le-suc, eqb-true, get_or-set_same, get_or-set_other}
-use Rattle.std.proofs.lemmas.Bool.{eqb-false}
+use Rattle.std.proofs.Common.{rules}
+use Rattle.std.proofs.lemmas.Grind.{common_steps}
+use Rattle.std.proofs.Common.{arith}
+use Rattle.std.specs.Prelude.{if◌then◌else◌, ◌≡◌, ℕ, zero, suc, ◌+◌, ◌<◌, List, [], ◌∷◌, map, length, replicate, ◌==◌, slice_index_or, slice_set, refl}
+use Rattle.std.proofs.Common.{ap, add-one, not-suc-le-zero, le_of_suc-le-suc}
 use Rattle.tlb.specs.Lists.{Each, done, more, swept}
 
 module _ {A : Type 0} where
@@ -27,25 +29,13 @@ module _ {A : Type 0} where
   each-replicate P x px zero = done
   each-replicate P x px (suc n) = more px (each-replicate P x px n)
 
-  -- inside the list the default does not matter
-  pub get_d_any : (l : List A) (i : ℕ) (d d' : A) → i < length l → slice_index_or l i d ≡ slice_index_or l i d'
-  get_d_any [] i d d' h = absurd (not-suc-le-zero h)
-  get_d_any (x ∷ l) zero d d' h = refl
-  get_d_any (x ∷ l) (suc i) d d' h = get_d_any l i d d' (le_of_suc-le-suc h)
-
   -- n times x, read anywhere with x for what lies outside
   pub replicate-at : (x : A) (n i : ℕ) → slice_index_or (replicate n x) i x ≡ x
-  replicate-at x zero i = refl
-  replicate-at x (suc n) zero = refl
-  replicate-at x (suc n) (suc i) = replicate-at x n i
+  replicate-at x n i = grind (arith, common_steps)
 
   -- the element at n after a store at j
   pub get_d_set : (l : List A) (j n : ℕ) (x d : A) → j < length l → slice_index_or (slice_set l j x) n d ≡ (if n == j then x else slice_index_or l n d)
-  get_d_set l j n x d h = go (n == j) refl
-    where
-      go : (b : Bool) → (n == j) ≡ b → slice_index_or (slice_set l j x) n d ≡ (if n == j then x else slice_index_or l n d)
-      go true e = rw (e, eqb-true n j e) (get_or-set_same l j x d h)
-      go false e = rw e (get_or-set_other l j n x d (eqb-false n j e))
+  get_d_set l j n x d h = search rules
 
   swept_step : (g : A → A) (l : List A) (d : A) (i : ℕ) → i < length l
       → slice_set (swept g i l) i (g (slice_index_or (swept g i l) i d)) ≡ swept g (suc i) l
@@ -55,4 +45,4 @@ module _ {A : Type 0} where
 
   pub sweep : (g : A → A) (l out : List A) (i : ℕ) (d e : A) → i < length l → out ≡ swept g i l → e ≡ g (slice_index_or out i d)
       → slice_set out i e ≡ swept g (i + 1) l
-  sweep g l out i d e h o x = rw (x, o, add-one) (swept_step g l d i h)
+  sweep g l out i d e h o x = grind (arith, add-one, swept_step)

@@ -1,16 +1,15 @@
 -- A translation that no hint serves, against the plain model.
-use Rattle.std.specs.Prelude.{if◌then◌else◌, ◌≡◌, ◌≢◌, nat_lt, ℕ, ◌*◌, ◌/◌, ◌^◌, ◌≤◌, ◌<◌, Bool, true, false, Some, None, Ok, Err}
+use Rattle.std.proofs.Common.{rules}
+use Rattle.std.specs.Prelude.{if◌then◌else◌, ◌≡◌, ℕ, ◌/◌, ◌≤◌, Bool, true, false, Some, None, Ok, Err}
 use Rattle.std.proofs.Math.Path.{refl, ap}
 use Rattle.std.proofs.Common.{◌∙◌, arith, length-set}
-use borrow.Author.Tests.{ne_eqb}
-use Rattle.std.proofs.lemmas.Grind.{common_steps}
 use Rattle.walk.specs.Answers.{Walked}
 use Rattle.walk.specs.declared.level.Leaf.{Leaf}
 use Rattle.tlb.specs.Access.{flat_answer}
 use Rattle.tlb.specs.Answers.{Outcome}
 use Rattle.tlb.proofs.Cells.{judged-is}
 use Rattle.tlb.specs.Count.{with_tally, hit_counted, walk_counted}
-use Rattle.tlb.specs.Entry.{blank, slot_of, serves, entry_for}
+use Rattle.tlb.specs.Entry.{blank, slot_of, entry_for}
 use Rattle.tlb.proofs.Lists.{each-getD}
 use Rattle.tlb.specs.Live.{Follows, line_in, live, Made, WellFormed, LeafLevel}
 use Rattle.tlb.specs.Model.{empty, holds, Line, one_hit, one_walk, counting, keep, Access, line_of_leaf, judge, walked, looked, flat, unhinted}
@@ -18,24 +17,14 @@ use Rattle.tlb.specs.Tlb.{entry_at, get_of}
 use Rattle.tlb.specs.Translate.{tag_in, walked_in, looked_in, miss_in}
 use Rattle.tlb.specs.declared.{entry.Entry.Entry, count.Tally.Tally, Tlb.Tlb}
 use Rattle.tlb.proofs.Levels.{hit-counted, walk-counted}
-use Rattle.tlb.proofs.Refines.{well, blank-made, page-is, line-is, put-live, put-sound}
+use Rattle.tlb.proofs.Refines.{well, blank-made, line-is, put-live, put-sound}
 
 tally-well : (t : Tlb) (i : ℕ) (n : Tally) → WellFormed t → WellFormed (with_tally t i n)
 tally-well t i n s = well _ s.first s.last s.slots s.places (length-set t.levels i n ∙ s.levels) s.entries s.hints s.fetch
 
 -- the code's test of a flat address is the model's
 pub flat-is : (u : ℕ) → flat_answer u ≡ flat u
-flat-is u = go (nat_lt u (2 ^ 44)) refl
-  where
-    go : (b : Bool) → nat_lt u (2 ^ 44) ≡ b → flat_answer u ≡ flat u
-    go true e =
-        let below : u < 2 ^ 44 = grind (arith, common_steps, e) in
-        let none : u / 2 ^ 44 ≡ 0 = omega arith in
-        rw (e, none)
-    go false e =
-        let above : 2 ^ 44 ≤ u = grind (arith, common_steps, e) in
-        let some : u / 2 ^ 44 ≢ 0 = λ z. omega arith in
-        rw (e, ne_eqb (u / 2 ^ 44) 0 some)
+flat-is u = grind arith
 
 module _ (a : Access) (t : Tlb) (s : WellFormed t) (fits : LeafLevel a.walk) (low : a.privilege.level ≤ 3) where
   abbrev level : ℕ
@@ -54,7 +43,7 @@ module _ (a : Access) (t : Tlb) (s : WellFormed t) (fits : LeafLevel a.walk) (lo
   walk-live = λ n. record (live t) { counts = walk-counted t s.levels level low n }
 
   walk-well : WellFormed after_walk
-  walk-well = tally-well t _ _ s
+  walk-well = search rules
 
   entry-made : Made t.generation entry
   entry-made = each-getD {P = Made t.generation} blank (blank-made _) s.entries (slot_of (tag_in a))
@@ -64,9 +53,7 @@ module _ (a : Access) (t : Tlb) (s : WellFormed t) (fits : LeafLevel a.walk) (lo
   made leaf = entry_for leaf t.asid (tag_in a)
 
   leaf-line : (leaf : Leaf) → line_in a.regime (made leaf) ≡ line_of_leaf leaf a t.asid
-  leaf-line leaf =
-      let framed : leaf.oa / 4096 * 4096 / 4096 ≡ leaf.oa / 4096 = omega arith in
-      λ n. record (line_of_leaf leaf a t.asid) { page = page-is a.regime (a.untagged / 4096) n; frame = framed n }
+  leaf-line leaf = grind arith
 
   walk-follows : (w : Walked) → a.walk ≡ w → Follows (walked_in w a t) (walked w a (live t))
   unfolding walked_in walked
@@ -92,9 +79,8 @@ module _ (a : Access) (t : Tlb) (s : WellFormed t) (fits : LeafLevel a.walk) (lo
 
   miss-by : (on : Bool) → Follows (missed on) (unhinted on a (live t))
   unfolding get_of unhinted
-  miss-by true = rw (line-is t a.regime (a.untagged / 4096)) (look-follows (serves entry t (tag_in a)))
-  miss-by false = record { answer = flat-is a.untagged; after = refl; well = s }
+  miss-by on = grind (arith, line-is, look-follows, flat-is, well)
 
   pub miss-follows : Follows (miss_in a t) (unhinted a.on a (live t))
   unfolding miss_in
-  miss-follows = miss-by a.on
+  miss-follows = grind (arith, miss-by)

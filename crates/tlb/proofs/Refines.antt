@@ -1,23 +1,23 @@
 -- Each operation on the cache does to the plain model what the requirement says, and keeps the cache well-formed.
-use Rattle.std.specs.Prelude.{if◌then◌else◌, ◌≡◌, ℕ, ◌+◌, ◌*◌, ◌/◌, ◌%◌, ◌^◌, ◌<◌, ◌≤◌, Bool, true, false, List, map, length, ◌==◌, Option, Some, None, slice_index_or, slice_set}
+use Rattle.std.proofs.Common.{rules}
+use Rattle.std.specs.Prelude.{if◌then◌else◌, ◌≡◌, ℕ, ◌+◌, ◌*◌, ◌/◌, ◌%◌, ◌^◌, ◌<◌, ◌≤◌, Bool, true, false, List, map, length, ◌==◌, None, slice_index_or, slice_set}
 use Rattle.std.proofs.Math.Path.{refl, ap, subst}
 use Rattle.std.proofs.Common.{sym, ◌∙◌, arith, length-set}
-use borrow.Author.Tests.{eqb-true, eqb-false}
 use Rattle.std.proofs.lemmas.List.{length-map}
 use Rattle.std.proofs.Math.ListN.{length-replicate, get_or-map}
 use Rattle.sysreg.specs.declared.regs.Regime.{Regime}
-use Rattle.tlb.specs.Entry.{blank, slot_of, serves, stamped, untagged, named, page_dropped, walked_for, asid_dropped}
+use Rattle.tlb.specs.Entry.{blank, slot_of, serves, stamped, named, page_dropped, walked_for, asid_dropped}
 use Rattle.tlb.specs.Hint.{no_hint}
 use Rattle.tlb.specs.Lists.{Each}
 use Rattle.tlb.proofs.Lists.{each_map, each-imp, each_set, each-getD, each-replicate, replicate-at, get_d_set}
-use Rattle.tlb.specs.Count.{more, no_tally, no_tallies}
-use Rattle.tlb.specs.Tlb.{blanks, no_hints, fresh, entry_at, hintless, next_generation, put_of, flush_of, drop_page_of, drop_asid_of}
-use Rattle.tlb.specs.Tlb.{retag_of, invalidate_of, same_inval, pending_after, broadcast_of}
+use Rattle.tlb.specs.Count.{more, no_tallies}
+use Rattle.tlb.specs.Tlb.{blanks, no_hints, fresh, entry_at, hintless, put_of, flush_of, drop_page_of, drop_asid_of}
+use Rattle.tlb.specs.Tlb.{retag_of, invalidate_of, broadcast_of}
 use Rattle.sysreg.specs.Regs.{index_of}
-use Rattle.tlb.specs.Model.{Slot, empty, holds, Line, empty_model, uncovered, invalidate, retag, equal, joined, broadcast, serving, line_for, keep}
+use Rattle.tlb.specs.Model.{Slot, empty, holds, Line, empty_model, uncovered, invalidate, retag, broadcast, line_for, keep}
 use Rattle.tlb.specs.Live.{line_in, line_of, hint_of, fetch_hint_of, pending_of, lines_of, hints_of, counters_of, live, Made, Aligned, FetchAligned, WellFormed}
 use Rattle.tlb.proofs.Cells.{if-ap, same-pick, regime-low, found, line_made, page-drops, asid-drops, all-covered, flush-drops}
-use Rattle.tlb.specs.declared.{entry.Entry.Entry, hint.Hint.Hint, Tlb.Tlb, Inval.Inval}
+use Rattle.tlb.specs.declared.{entry.Entry.Entry, Tlb.Tlb, Inval.Inval}
 use Rattle.tlb.specs.declared.Inval.TheVariants.{All, Page, Asid}
 
 pub well : (t : Tlb) → 1 ≤ t.generation → t.generation < 2 ^ 32 → length t.entries ≡ 1024 → length t.hints ≡ 512 → length t.levels ≡ 4
@@ -56,20 +56,11 @@ module _ (t : Tlb) (f : t.fetch ≡ None) (h : t.hints ≡ no_hints) where
   cleared-live : (ls : ℕ → Slot Line) → ((i : ℕ) → lines_of t.generation t.entries i ≡ ls i)
       → live t ≡ record { asid = t.asid; lines = ls; hints = λ i. empty; fetch = empty; counts = counters_of t; pending = pending_of t.broadcast }
   unfolding fetch_hint_of
-  cleared-live ls q =
-      λ n.
-      record {
-        asid = t.asid;
-        lines = λ i. q i n;
-        hints = λ i. (ap (λ (hs : List Hint). hints_of hs i) h ∙ no-hints-at i) n;
-        fetch = ap fetch_hint_of f n;
-        counts = counters_of t;
-        pending = pending_of t.broadcast;
-      }
+  cleared-live ls q = grind (arith, no-hints-at)
 
 blank-lines : (i : ℕ) → lines_of 1 blanks i ≡ empty
 unfolding lines_of line_of
-blank-lines i = ap (line_of 1) (blanks_at i)
+blank-lines i = grind (arith, blanks_at)
 
 blanks-long : length blanks ≡ 1024
 unfolding blanks
@@ -83,15 +74,7 @@ blanks-made g = each-replicate (Made g) blank (blank-made g) 1024
 
 no-counts : counters_of fresh ≡ empty_model.counts
 unfolding no_tallies
-no-counts =
-    λ n.
-    record {
-      hits = λ l. (replicate-at no_tally 4 l n).hits;
-      walks = λ l. (replicate-at no_tally 4 l n).walks;
-      flushes = 0;
-      drops = 0;
-      epoch = 0;
-    }
+no-counts = grind arith
 
 pub fresh-live : live fresh ≡ empty_model
 fresh-live =
@@ -99,8 +82,8 @@ fresh-live =
     ∙ λ n. record { asid = 0; lines = λ i. empty; hints = λ i. empty; fetch = empty; counts = no-counts n; pending = empty }
 
 pub fresh-sound : WellFormed fresh
-unfolding no_tallies
-fresh-sound = cleared-well fresh refl refl (omega arith) (omega arith) blanks-long (length-replicate 4 no_tally) (blanks-made 1)
+unfolding no_tallies no_hints blanks
+fresh-sound = search (rules, length-replicate, each-replicate, blank-made)
 
 -- INVALIDATIONS
 
@@ -110,10 +93,6 @@ module _ (what : Inval) (g : ℕ) (f : Entry → Entry) (es : List Entry) where
       → lines_of g (map f es) i ≡ uncovered what (lines_of g es i)
   unfolding lines_of
   mapped-lines b q i = ap (line_of g) (rw b at (get_or-map f es i blank)) ∙ q (slice_index_or es i blank)
-
-made-still : (g : ℕ) (e : Entry) (b : Bool) → Made g e → Made g (if b then untagged e else e)
-made-still g e true m = record { early = m.early; aligned = m.aligned; level = m.level }
-made-still g e false m = m
 
 page-blank : (g page : ℕ) → page_dropped g page blank ≡ blank
 unfolding page_dropped
@@ -125,11 +104,11 @@ asid-blank asid = same-pick (walked_for asid blank) blank
 
 page-made : (g h page : ℕ) (e : Entry) → Made g e → Made g (page_dropped h page e)
 unfolding page_dropped
-page-made g h page e m = made-still g e (named h page e) m
+page-made g h page e m = grind arith
 
 asid-made : (g asid : ℕ) (e : Entry) → Made g e → Made g (asid_dropped asid e)
 unfolding asid_dropped
-asid-made g asid e m = made-still g e (walked_for asid e) m
+asid-made g asid e m = grind arith
 
 older : (g : ℕ) (e : Entry) → Made g e → Made (g + 1) e
 older g e m = record { early = omega arith; aligned = m.aligned; level = m.level }
@@ -144,15 +123,7 @@ advanced t = record (hintless t) { flushes = more t.flushes; generation = t.gene
 module _ (t : Tlb) (s : WellFormed t) where
   flushed : (P : Tlb → Type 0) → P (wrapped t) → (t.generation + 1 < 2 ^ 32 → P (advanced t)) → P (flush_of t)
   unfolding flush_of
-  flushed P w a = go (next_generation t.generation == 0) refl
-    where
-      go : (b : Bool) → (next_generation t.generation == 0) ≡ b → P (flush_of t)
-      go true f = rw f w
-      go false f =
-          let ne : next_generation t.generation ≡ 0 → ⊥ = eqb-false _ _ f in
-          let below : t.generation < 2 ^ 32 = s.last in
-          let n : next_generation t.generation ≡ t.generation + 1 = omega arith in
-          rw (f, n) (a (omega arith))
+  flushed P w a = grind arith
 
   pub flush-live : live (flush_of t) ≡ invalidate All (live t)
   unfolding invalidate lines_of
@@ -171,77 +142,45 @@ module _ (t : Tlb) (s : WellFormed t) where
 
   pub page-live : (page : ℕ) → live (drop_page_of t page) ≡ invalidate (Page page) (live t)
   unfolding drop_page_of invalidate
-  page-live page =
-      cleared-live (drop_page_of t page) refl refl _
-      (mapped-lines (Page page) _ _ t.entries (page-blank t.generation page) (page-drops _ page))
+  page-live page = search (rules, cleared-live, mapped-lines, page-blank, page-drops)
 
   pub page-sound : (page : ℕ) → WellFormed (drop_page_of t page)
   unfolding drop_page_of
-  page-sound page =
-      cleared-well (drop_page_of t page) refl refl s.first s.last (length-map t.entries (page_dropped t.generation page) ∙ s.slots) s.levels
-      (each_map (page_dropped t.generation page) (page-made _ _ page) s.entries)
+  page-sound page = search (rules, cleared-well, length-map, each_map, page-made)
 
   pub asid-live : (asid : ℕ) → live (drop_asid_of t asid) ≡ invalidate (Asid asid) (live t)
   unfolding drop_asid_of retag_of invalidate
-  asid-live asid =
-      cleared-live (drop_asid_of t asid) refl refl _
-      (mapped-lines (Asid asid) t.generation _ t.entries (asid-blank asid) (asid-drops _ asid))
+  asid-live asid = search (rules, cleared-live, mapped-lines, asid-blank, asid-drops)
 
   pub asid-sound : (asid : ℕ) → WellFormed (drop_asid_of t asid)
   unfolding drop_asid_of retag_of
-  asid-sound asid =
-      cleared-well (drop_asid_of t asid) refl refl s.first s.last (length-map t.entries (asid_dropped asid) ∙ s.slots) s.levels
-      (each_map (asid_dropped asid) (asid-made _ asid) s.entries)
+  asid-sound asid = search (rules, cleared-well, length-map, each_map, asid-made)
 
   -- every TLBI
   pub invalidate-live : (what : Inval) → live (invalidate_of t what) ≡ invalidate what (live t)
   unfolding invalidate_of
-  invalidate-live All = flush-live
-  invalidate-live (Page page) = page-live page
-  invalidate-live (Asid asid) = asid-live asid
+  invalidate-live what = grind (arith, flush-live, page-live, asid-live)
 
   pub invalidate-sound : (what : Inval) → WellFormed (invalidate_of t what)
   unfolding invalidate_of
-  invalidate-sound All = flush-sound
-  invalidate-sound (Page page) = page-sound page
-  invalidate-sound (Asid asid) = asid-sound asid
+  invalidate-sound what = grind (arith, flush-sound, page-sound, asid-sound)
 
   pub retag-live : (asid : ℕ) → live (retag_of t asid) ≡ retag asid (live t)
   unfolding retag_of retag
-  retag-live asid = cleared-live (retag_of t asid) refl refl _ (λ i. refl)
+  retag-live asid = search (rules, cleared-live)
 
   pub retag-sound : (asid : ℕ) → WellFormed (retag_of t asid)
-  unfolding retag_of
-  retag-sound asid = cleared-well (retag_of t asid) refl refl s.first s.last s.slots s.levels s.entries
+  unfolding retag_of no_hints
+  retag-sound asid = search (rules, length-replicate, each-replicate)
 
 -- BROADCAST
 
 pub falsely : {A : Type 0} → false ≡ true → A
 falsely e = absurd (let z : ◌≡◌ {A = ℕ} 0 1 = ap (λ (b : Bool). (if b then 1 else 0)) e in omega arith)
 
-equal_is : (v w : Inval) → equal v w ≡ same_inval v w
-equal_is All All = refl
-equal_is (Page p) (Page q) = refl
-equal_is (Asid n) (Asid m) = refl
-equal_is v w = refl
-
-same-is : (v w : Inval) → same_inval v w ≡ true → v ≡ w
-same-is All All e = refl
-same-is (Page p) (Page q) e = ap Page (eqb-true p q e)
-same-is (Asid n) (Asid m) e = ap Asid (eqb-true n m e)
-same-is v w e = falsely e
-
-joined_is : (p : Option Inval) (what : Inval) → pending_of (pending_after p what) ≡ joined (pending_of p) what
-joined_is None what = refl
-joined_is (Some earlier) what = go (same_inval earlier what) refl
-  where
-    go : (b : Bool) → same_inval earlier what ≡ b → pending_of (pending_after (Some earlier) what) ≡ joined (holds earlier) what
-    go true e = rw (equal_is earlier what, e) (ap holds (sym (same-is earlier what e)))
-    go false e = rw (equal_is earlier what, e)
-
 pub broadcast-live : (t : Tlb) (what : Inval) → live (broadcast_of t what) ≡ broadcast what (live t)
 unfolding broadcast_of broadcast
-broadcast-live t what = λ n. record (live t) { pending = joined_is t.broadcast what n }
+broadcast-live t what = grind arith
 
 pub broadcast-sound : (t : Tlb) (what : Inval) → WellFormed t → WellFormed (broadcast_of t what)
 unfolding broadcast_of
@@ -253,18 +192,12 @@ broadcast-sound t what s = well _ s.first s.last s.slots s.places s.levels s.ent
 pub slot_is : (r : Regime) (p : ℕ) → slot_of (p * 4 + index_of r) ≡ p % 1024
 slot_is r p = omega (arith, regime-low r)
 
-pub page-is : (r : Regime) (p : ℕ) → (p * 4 + index_of r) / 4 ≡ p
-page-is r p = omega (arith, regime-low r)
-
 pub line-is : (t : Tlb) (r : Regime) (p : ℕ)
     → line_for (live t) r p
     ≡ (if serves (entry_at t (slot_of (p * 4 + index_of r))) t (p * 4 + index_of r) then holds (line_in r (entry_at t (slot_of (p * 4 + index_of r))))
     else empty)
 unfolding line_for lines_of
-line-is t r p =
-    ap (λ (i : ℕ). serving t.asid r p (line_of t.generation (slice_index_or t.entries i blank)))
-    (sym (slot_is r p))
-    ∙ found t r p (entry_at t (slot_of (p * 4 + index_of r)))
+line-is t r p = grind (arith, slot_is, found)
 
 -- an entry of a regime's page, put into its slot in the present generation
 pub kept-lines : (g p : ℕ) (r : Regime) (es : List Entry) (e : Entry) → length es ≡ 1024 → e.generation ≡ g
@@ -283,8 +216,4 @@ module _ (t : Tlb) (s : WellFormed t) (r : Regime) (p : ℕ) (e : Entry) where
 
   pub put-sound : e.pa % 4096 ≡ 0 → e.level ≤ 3 → WellFormed (put_of t e)
   unfolding put_of
-  put-sound a l =
-      let made : Made t.generation (stamped e t.generation) = record { early = omega arith; aligned = a; level = l } in
-      let slots : length (slice_set t.entries (slot_of e.tag) (stamped e t.generation)) ≡ 1024 = length-set _ _ _ ∙ s.slots in
-      let entries : Each (Made t.generation) (slice_set t.entries (slot_of e.tag) (stamped e t.generation)) = each_set _ made s.entries _ in
-      well _ s.first s.last slots s.places s.levels entries s.hints s.fetch
+  put-sound a l = grind (arith, length-set, each_set, well)

@@ -1,16 +1,14 @@
 -- How many descriptors a walk reads, by the levels at which it begins and ends.
-use Rattle.std.specs.Prelude.{if◌then◌else◌, ◌≡◌, Bool, not, ◌&&◌, ◌||◌, length, [], ◌∷◌, ltb, Option, Some, None, Ok, Err}
-use Rattle.std.proofs.Math.Path.{refl, subst, ap}
+use Rattle.std.specs.Prelude.{if◌then◌else◌, ◌≡◌, Bool, not, ◌||◌, length, [], ◌∷◌, Option, Ok, Err}
+use Rattle.std.proofs.Math.Path.{refl, subst}
 use Rattle.std.proofs.Math.Bool.{true, false}
-use Rattle.std.proofs.Math.Dec.{eqb}
 use Prim.Native.Nat.{ℕ, zero, suc, ◌+◌, ◌-◌, ◌≤◌}
 use native.Mathlib.Omega.{arith}
 use Rattle.sysreg.specs.Regs.{single_priv}
 use Rattle.walk.specs.Regime.{wxn_of}
-use Rattle.walk.specs.Descriptor.{valid, table_or_page, af}
-use Rattle.walk.specs.Table.{Translation, Fault, Result, mapped, faults, translation, address_size, access_flag, external_abort, firstblocklevel, in_range, beyond}
+use Rattle.walk.specs.Table.{Translation, Fault, Result, mapped, faults, translation, address_size, external_abort, in_range, beyond}
 use Rattle.walk.specs.Table.{Lookup, Next, deeper, ends, startlevel, first_lookup, range_of, leaf_translation, leaf_result, level_next, table_next}
-use Rattle.walk.specs.Table.{descaddr, on_word, lookup_next, walk_from, walk_range, table_walk}
+use Rattle.walk.specs.Table.{descaddr, lookup_next, walk_from, walk_range, table_walk}
 use Rattle.walk.specs.Walk.{walked_of, walk_of}
 use Rattle.walk.specs.Fetches.{after_next, fetches_from, fetches_range, fetches_of}
 use Rattle.walk.specs.Order.{params_at, Reached, entry, onward}
@@ -46,13 +44,8 @@ module _ (s : Bank) (r : Regime) (va : ℕ) (memory : ℕ → Option ℕ) where
   counted (onward {l} {k} h e) = next-counted l k (stage s r va memory h).level (counted h) e
 
   pub some-read : SomeRead s r va memory
-  unfolding fetches_from
-  some-read e d b =
-      let c = counted (entry e d b) in
-      let h = start-level (range_of s r va) in
-      let n : 4 - startlevel (range_of s r va) ≡ suc (3 - startlevel (range_of s r va)) = omega (arith, h) in
-      let z = rw (n, fetches_from) at c.all in
-      omega (arith, z)
+  unfolding fetches_from fetches_of fetches_range
+  some-read e d b = grind (arith, start-level, stage, one_down)
 
   pub ends-at : EndsAt s r va memory
   unfolding fetches_from
@@ -78,47 +71,9 @@ EndsOn n (deeper k) = Unit {0}
 EndsOn n (ends x) = OfLevel n x
 
 module _ (p : Params) (va : ℕ) (l : Lookup) where
-  leaf-level : (desc : ℕ) → OfLevel l.level (leaf_result p va l desc)
-  unfolding leaf_result leaf_translation
-  leaf-level desc = go (ltb l.level (firstblocklevel p.largegrain)) (beyond p.outputsize desc) (af desc)
-    where
-      go : (a b c : Bool)
-          → OfLevel l.level
-          (if a then faults (translation l.level)
-          else if b then faults (address_size l.level)
-          else if c then mapped (leaf_translation p va l desc)
-          else faults (access_flag l.level))
-      go true b c = tt
-      go false true c = tt
-      go false false true = refl
-      go false false false = tt
-
-  table-level : (desc : ℕ) → EndsOn l.level (table_next p l desc)
-  unfolding table_next
-  table-level desc = go (beyond p.outputsize desc) _
-    where
-      go : (b : Bool) (k : Lookup) → EndsOn l.level (if b then ends (faults (address_size l.level)) else deeper k)
-      go true k = tt
-      go false k = tt
-
-  descriptor-level : (desc : ℕ) → EndsOn l.level (level_next p va l desc)
-  unfolding level_next
-  descriptor-level desc = go (not (valid desc) || (eqb l.level 3 && not (table_or_page desc))) (eqb l.level 3 || not (table_or_page desc))
-    where
-      go : (a b : Bool)
-          → EndsOn l.level
-          (if a then ends (faults (translation l.level)) else if b then ends (leaf_result p va l desc) else table_next p l desc)
-      go true b = tt
-      go false true = leaf-level desc
-      go false false = table-level desc
-
-  word-level : (word : Option ℕ) → EndsOn l.level (on_word word (level_next p va l) (ends (faults (external_abort l.level))))
-  word-level (Some desc) = descriptor-level desc
-  word-level None = tt
-
   lookup-level : (memory : ℕ → Option ℕ) → EndsOn l.level (lookup_next memory p va l)
-  unfolding lookup_next
-  lookup-level memory = word-level (memory (descaddr p va l))
+  unfolding lookup_next level_next leaf_result leaf_translation table_next
+  lookup-level memory = grind arith
 
 fault-leaf : (f : Fault) (t : Translation) → faults f ≡ mapped t → ⊥
 fault-leaf f t e = let z : ◌≡◌ {A = ℕ} 0 1 = cc in omega arith
@@ -167,22 +122,14 @@ module _ (s : Bank) (r : Regime) (va : ℕ) (memory : ℕ → Option ℕ) (t : T
       go false true e = absurd (fault-leaf _ t e)
       go false false e = found-from (4 - startlevel g) (first_lookup g) (omega (arith, start-level g)) e
 
-abbrev level_in : Walked → ℕ
-level_in (Ok leaf) = leaf.level
-level_in (Err n) = 0
-
 no-leaf : (n : ℕ) (leaf : Leaf) → ◌≡◌ {A = Walked} (Err n) (Ok leaf) → ⊥
 no-leaf n leaf e = let z : ◌≡◌ {A = ℕ} 0 1 = cc in omega arith
 
 leaf-of-result : (s : Bank) (r : Regime) (va : ℕ) (memory : ℕ → Option ℕ) (leaf : Leaf) (x : Result) → table_walk s r va memory ≡ x
     → walked_of (single_priv r) (wxn_of s) x ≡ Ok leaf → reads s r va memory ≡ reads_to s r va memory leaf.level
 unfolding table_walk fetches_of
-leaf-of-result s r va memory leaf (mapped t) e q =
-    let f = found-range s r va memory t e in
-    let same : t.level ≡ leaf.level = ap (λ (w : Walked). level_in w) q in
-    omega (arith, f.count, same)
-leaf-of-result s r va memory leaf (faults f) e q = absurd (no-leaf _ leaf q)
+leaf-of-result s r va memory leaf x e q = grind (arith, found-range, no-leaf)
 
 pub leaf-counts : (s : Bank) (r : Regime) (va : ℕ) (memory : ℕ → Option ℕ) → LeafCounts s r va memory
 unfolding walk_of
-leaf-counts s r va memory leaf e = leaf-of-result s r va memory leaf (table_walk s r va memory) refl e
+leaf-counts s r va memory leaf e = grind (arith, leaf-of-result)

@@ -1,13 +1,14 @@
 -- A walk sees of memory only the descriptors that it fetches, and these are few.
-use Rattle.std.specs.Prelude.{if◌then◌else◌, ◌≡◌, Bool, true, false, not, ◌||◌, length, get_or, Option}
+use Rattle.std.proofs.Common.{arith}
+use Rattle.std.specs.Prelude.{◌≡◌, length, get_or, Option}
 use Rattle.std.proofs.Math.Path.{refl}
 use Rattle.std.proofs.Common.{ap, le_trans}
 use mathlib.Core.List.{List, [], ◌∷◌, Memᴰ}
 use Prim.Native.Nat.{ℕ, zero, suc, ◌+◌, ◌-◌, ◌≤◌, ◌<◌, zero-le, suc-le-suc}
 use Rattle.word.specs.Ram.{word_at}
 use Rattle.word.proofs.RamLaws.{word-agree}
-use Rattle.walk.specs.Table.{Result, faults, address_size, translation, in_range, beyond, startlevel, levels_of, Lookup, Next, deeper, ends}
-use Rattle.walk.specs.Table.{first_lookup, range_of, params_of, descaddr, lookup_next, on_next, walk_from, walk_range, table_walk}
+use Rattle.walk.specs.Table.{levels_of, Lookup, Next, deeper, ends}
+use Rattle.walk.specs.Table.{range_of, descaddr, lookup_next, on_next, walk_from, walk_range, table_walk}
 use Rattle.walk.specs.Walk.{walk_of}
 use Rattle.walk.proofs.SizeLaws.{level-count}
 use Rattle.walk.specs.declared.{regime.Bank.Bank, range.Range.Range, level.Params.Params}
@@ -54,32 +55,17 @@ module _ (m m' : ℕ → Option ℕ) (p : Params) (va : ℕ) where
   range-agrees : (g : Range) → Agree m m' (fetches_range p g va m)
       → (walk_range p g va m ≡ walk_range p g va m') × (fetches_range p g va m ≡ fetches_range p g va m')
   unfolding walk_range fetches_range
-  range-agrees g = go (not (in_range g va) || g.disabled) (beyond p.outputsize g.baseregister)
-    where
-      from : (ℕ → Option ℕ) → Result
-      from memory = walk_from (4 - startlevel g) memory p va (first_lookup g)
-
-      list : (ℕ → Option ℕ) → List ℕ
-      list memory = fetches_from (4 - startlevel g) memory p va (first_lookup g)
-
-      go : (a b : Bool)
-          → Agree m m' (if a then [] else if b then [] else list m)
-          → (if a then faults (translation 0) else if b then faults (address_size 0) else from m
-          ≡ (if a then faults (translation 0) else if b then faults (address_size 0) else from m'))
-          × ((if a then [] else if b then [] else list m) ≡ (if a then [] else if b then [] else list m'))
-      go true b h = (refl, refl)
-      go false true h = (refl, refl)
-      go false false h = from-agrees (4 - startlevel g) (first_lookup g) h
+  range-agrees g = grind (arith, from-agrees)
 
 -- memories that agree where the walk fetches give one walk
 pub agrees : (s : Bank) (r : Regime) (va : ℕ) (m m' : ℕ → Option ℕ) → Agree m m' (fetches_of s r va m) → walk_of s r va m ≡ walk_of s r va m'
 unfolding walk_of table_walk fetches_of
-agrees s r va m m' h = rw (range-agrees m m' (params_of s r (range_of s r va)) va (range_of s r va) h).0
+agrees s r va m m' h = grind (arith, range-agrees)
 
 -- and the walk fetches the same descriptors
 pub agrees-fetches : (s : Bank) (r : Regime) (va : ℕ) (m m' : ℕ → Option ℕ) → Agree m m' (fetches_of s r va m) → fetches_of s r va m ≡ fetches_of s r va m'
 unfolding fetches_of
-agrees-fetches s r va m m' h = (range-agrees m m' (params_of s r (range_of s r va)) va (range_of s r va) h).1
+agrees-fetches s r va m m' h = grind (arith, range-agrees)
 
 few-from : (n : ℕ) (m : ℕ → Option ℕ) (p : Params) (va : ℕ) (l : Lookup) → length (fetches_from n m p va l) ≤ n
 unfolding fetches_from
@@ -93,17 +79,12 @@ few-from (suc n) m p va l = go (lookup_next m p va l) (few-from n m p va)
 
 few-range : (p : Params) (g : Range) (va : ℕ) (m : ℕ → Option ℕ) → length (fetches_range p g va m) ≤ levels_of g.largegrain
 unfolding fetches_range
-few-range p g va m = go (not (in_range g va) || g.disabled) (beyond p.outputsize g.baseregister)
-  where
-    go : (a b : Bool) → length (if a then [] else if b then [] else fetches_from (4 - startlevel g) m p va (first_lookup g)) ≤ levels_of g.largegrain
-    go true b = zero-le
-    go false true = zero-le
-    go false false = le_trans (few-from (4 - startlevel g) m p va (first_lookup g)) (level-count g)
+few-range p g va m = grind (arith, le_trans, few-from, level-count)
 
 -- at most four descriptors with a granule of 4 KiB, three with one of 64 KiB
 pub few-fetches : (s : Bank) (r : Regime) (va : ℕ) (m : ℕ → Option ℕ) → length (fetches_of s r va m) ≤ levels_of (range_of s r va).largegrain
 unfolding fetches_of
-few-fetches s r va m = few-range (params_of s r (range_of s r va)) (range_of s r va) va m
+few-fetches s r va m = grind (arith, few-range)
 
 -- two windows of RAM whose words agree where the walk fetches give one walk
 pub ram-agrees : (s : Bank) (r : Regime) (va base : ℕ) (ram : List ℕ) (base' : ℕ) (ram' : List ℕ)

@@ -1,5 +1,5 @@
 -- Every fresh answer is flat, a leaf within its bounds or a status of the table of answers.
-use Rattle.std.specs.Prelude.{if◌then◌else◌, ◌≡◌, refl, Bool, ℕ, Option, Some, None, Ok, Err}
+use Rattle.std.specs.Prelude.{◌≡◌, refl, ℕ, Option, Some, None, Ok}
 use Rattle.std.proofs.Common.{subst, arith}
 use Rattle.std.proofs.Math.Bool.{true, false}
 use Rattle.walk.specs.Regime.{stage1_on}
@@ -16,8 +16,7 @@ use Rattle.walk.specs.declared.fresh.Fresh.TheVariants.{Ended}
 use Rattle.walk.specs.Answers.{Walked}
 
 walk_end : (va : ℕ) (w : Walked) → SoundWalked va w → SoundEnd w
-walk_end va (Ok leaf) h = h.0
-walk_end va (Err n) h = h
+walk_end va w h = grind arith
 
 -- a flat address that is too large has a status of the table too
 flat-sound : (o : Option ℕ) → SoundFresh (flat_end o)
@@ -27,11 +26,7 @@ flat-sound None = record { fault = address_size 0; level = omega arith; code = r
 module _ (s : Bank) (r : Regime) (va : ℕ) (memory : ℕ → Option ℕ) where
   pub answer-sound : SoundFresh (fresh_of s r va memory)
   unfolding fresh_of
-  answer-sound = go (stage1_on s r)
-    where
-      go : (b : Bool) → SoundFresh (if b then Ended (walk_of s r (untagged s.tcr r va) memory) else flat_end (flat_by (untagged s.tcr r va)))
-      go true = walk_end _ (walk_of s r (untagged s.tcr r va) memory) (walk-sound s r (untagged s.tcr r va) memory)
-      go false = flat-sound (flat_by (untagged s.tcr r va))
+  answer-sound = grind (arith, walk_end, walk-sound, flat-sound)
 
   pub is-sound : (x : Fresh) → x ≡ fresh_of s r va memory → SoundFresh x
   is-sound x e = rw e answer-sound

@@ -8,19 +8,6 @@ use Rattle.walk.specs.Table.{inputsize, in_range}
 use Rattle.walk.proofs.SizeLaws.{input-high}
 use Rattle.walk.specs.declared.range.Range.{Range}
 
-below : (va n : ℕ) → eqb (va / 2 ^ n) 0 ≡ ltb va (2 ^ n)
-below va n = go (ltb va (2 ^ n)) refl
-  where
-    go : (b : Bool) → ltb va (2 ^ n) ≡ b → eqb (va / 2 ^ n) 0 ≡ b
-    go true e = eq-eqb (va / 2 ^ n) 0 (div-eq_of_lt (ltb-true va (2 ^ n) e))
-    go false e =
-        ne_eqb (va / 2 ^ n) 0
-        (λ z.
-        let h : va / 2 ^ n < 1 = omega arith in
-        let k : va < 1 * 2 ^ n = (div-lt_iff_lt-mul (pow_pos n)).0 h in
-        let f : 2 ^ n ≤ va = ltb-false va (2 ^ n) e in
-        omega arith)
-
 above : (va n : ℕ) → n ≤ 64 → va < 2 ^ 64 → eqb (va / 2 ^ n) (2 ^ (64 - n) - 1) ≡ not (ltb va (2 ^ 64 - 2 ^ n))
 above va n h small = go (ltb va (2 ^ 64 - 2 ^ n)) refl
   where
@@ -52,7 +39,7 @@ above va n h small = go (ltb va (2 ^ 64 - 2 ^ n)) refl
         last-one a b h n = omega arith
 
 pub in-lower : (g : Range) (va : ℕ) → g.upper ≡ false → in_range g va ≡ ltb va (2 ^ inputsize g)
-in-lower g va e = rw e (below va (inputsize g))
+in-lower g va e = grind (arith, eq-eqb, div-eq_of_lt, ltb-true, ne_eqb, div-lt_iff_lt-mul, pow_pos, ltb-false)
 
 pub in-upper : (g : Range) (va : ℕ) → va < 2 ^ 64 → g.upper ≡ true → in_range g va ≡ not (ltb va (2 ^ 64 - 2 ^ inputsize g))
-in-upper g va h e = let k = input-high g in rw e (above va (inputsize g) (omega arith) h)
+in-upper g va h e = grind (arith, input-high, above)

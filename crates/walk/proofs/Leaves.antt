@@ -1,5 +1,5 @@
 -- Masks of the code as the fields of the definitions.
-use Rattle.std.specs.Prelude.{◌≡◌, refl, ℕ, zero, suc, ◌+◌, ◌-◌, ◌*◌, ◌/◌, ◌%◌, ◌^◌, ◌≤◌, ◌<◌, not, eqb, ◌==◌, ◌||◌}
+use Rattle.std.specs.Prelude.{◌≡◌, refl, ℕ, ◌+◌, ◌-◌, ◌*◌, ◌/◌, ◌%◌, ◌^◌, ◌≤◌, ◌<◌, not, eqb, ◌==◌, ◌||◌}
 use Rattle.std.proofs.Common.{ap, ◌∙◌, arith}
 use Rattle.std.specs.Int.Bits.{bit_and}
 use Rattle.std.proofs.lemmas.Nat.Bits.{and_pow}
@@ -18,22 +18,14 @@ ones_shifted n h =
 
 -- SCTLR_ELx.WXN
 one : (a : ℕ) → a < 2 → not (a * 2 ^ 19 == 0) ≡ (a == 1)
-one zero h = refl
-one (suc zero) h = refl
-one (suc (suc a)) h = absurd (omega arith)
+one a h = grind arith
 
 pub wxn_mask : (x : ℕ) → not (bit_and x 0x8_0000 == 0) ≡ bit_on x 19
 wxn_mask x = rw (and_pow x 19) (one (x / 2 ^ 19 % 2) (omega arith))
 
 -- HCR_EL2.TGE and DC
 neither : (a b : ℕ) → a < 2 → b < 2 → (a * 2 ^ 27 + b * 2 ^ 12 == 0) ≡ not (a == 1 || b == 1)
-neither zero zero h k = refl
-neither zero (suc zero) h k = refl
-neither (suc zero) zero h k = refl
-neither (suc zero) (suc zero) h k = refl
-neither (suc (suc a)) b h k = absurd (omega arith)
-neither zero (suc (suc b)) h k = absurd (omega arith)
-neither (suc zero) (suc (suc b)) h k = absurd (omega arith)
+neither a b h k = grind arith
 
 pub neither_mask : (x : ℕ) → (bit_and x 0x800_1000 == 0) ≡ not (bit_on x 27 || bit_on x 12)
 neither_mask x = rw (run x 0x800_1000 27 1 refl, and_pow x 12) (neither (x / 2 ^ 27 % 2) (x / 2 ^ 12 % 2) (omega arith) (omega arith))

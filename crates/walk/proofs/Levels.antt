@@ -1,6 +1,7 @@
 -- One level of the walk case by case, on plain values.
+use Rattle.std.proofs.Common.{rules}
 use Rattle.std.specs.Prelude.{Err}
-use mathlib.Core.Path.{◌≡◌, refl, sym, ap, ◌∙◌}
+use mathlib.Core.Path.{◌≡◌, sym, ap, ◌∙◌}
 use mathlib.Core.Bool.{Bool, true, false, ◌&&◌, ◌||◌}
 use Prim.Native.Nat.{ℕ, ◌+◌, ◌-◌, ◌*◌, ◌/◌, ◌%◌, ◌^◌, ◌≤◌, ◌<◌}
 use native.Mathlib.Nat.{mod-lt, lt_of_lt_of_le, le_of_lt}
@@ -8,8 +9,8 @@ use native.Mathlib.Omega.{arith}
 use lib.Bits.{bit_or}
 use lib.Pow.{shl-shr, shr-shr, mod-pow-add, high, pow_pos, pow_mono}
 use Rattle.word.specs.Bits.{field, align_down}
-use Rattle.word.proofs.BitLaws.{place, cut_field, or-bit, align-le}
-use Rattle.walk.specs.Table.{grainsize, stride, addrselectbottom, beyond, descaddr, table_next}
+use Rattle.word.proofs.BitLaws.{place, cut_field, or-bit}
+use Rattle.walk.specs.Table.{grainsize, stride, beyond, descaddr, table_next}
 use Rattle.walk.specs.State.{lookup_of, answers, stepped, meant, Standing, Onwards, Leads, next, found, fault}
 use Rattle.walk.specs.declared.{level.Params.Params, level.WalkState.WalkState, level.Leaf.Leaf}
 use Rattle.walk.specs.declared.level.Step.TheVariants.{Next, Leaf as Found, Fault}
@@ -40,25 +41,15 @@ module _ (p : Params) (w : WalkState) (va : ℕ) (st : Standing p w) where
   unfolding descaddr
   address_is = rw (index_is va w.top w.lsb (le_of_lt st.below_top) (omega (arith, st.top)), ← st.lsb)
 
-  address-parts : (va * 2 ^ (64 - w.top)) % 2 ^ 64 / 2 ^ (64 - w.top + w.lsb) < 2 ^ 48
-  address-parts =
-      rw (index_is va w.top w.lsb (le_of_lt st.below_top) (omega (arith, st.top)))
-      (index-small va w.top w.lsb (le_of_lt st.below_top) st.top)
-
   pub index-fits : (va * 2 ^ (64 - w.top)) % 2 ^ 64 / 2 ^ (64 - w.top + w.lsb) * 8 < 2 ^ 64
-  index-fits = omega (arith, address-parts)
+  index-fits = grind (arith, index_is, index-small)
 
   pub address-fits : w.table + (va * 2 ^ (64 - w.top)) % 2 ^ 64 / 2 ^ (64 - w.top + w.lsb) * 8 < 2 ^ 64
-  address-fits = omega (arith, address-parts, st.table)
+  address-fits = grind (arith, index_is, index-small)
 
 -- a table descriptor
 and-or : (a b c : Bool) → (a && (b || c)) ≡ ((a && b) || (a && c))
-and-or true b c = refl
-and-or false b c = refl
-
-lsb-falls : (g : Bool) (l : ℕ) → l < 3 → addrselectbottom g l - stride g ≡ addrselectbottom g (l + 1)
-lsb-falls true l h = omega arith
-lsb-falls false l h = omega arith
+and-or a b c = grind arith
 
 module _ (p : Params) (w : WalkState) (desc : ℕ) (large : Bool) (el : large ≡ beyond p.outputsize desc) where
   pub table-beyond : large ≡ true → answers (Err w.level) ≡ meant p (table_next p (lookup_of p w) desc)
@@ -73,32 +64,9 @@ module _ (p : Params) (w : WalkState) (desc : ℕ) (large : Bool) (el : large �
       rw (← el, t, ex, place {n = g} (omega arith), eg, st.lsb)
       (simp (or-bit w.tables desc 62, or-bit w.tables desc 61, or-bit w.tables desc 60, or-bit w.tables desc 59, and-or))
 
--- a stride is no wider than the bits above the last level
-pub stride-below : (p : Params) (w : WalkState) (s : ℕ) → Standing p w → w.level < 3 → s ≡ stride p.largegrain → s ≤ w.lsb
-stride-below p w s st h es = rw (es, st.lsb) (wide p.largegrain)
-  where
-    wide : (g : Bool) → stride g ≤ addrselectbottom g w.level
-    wide true = omega arith
-    wide false = omega arith
-
-stride-some : (g : Bool) → 0 < stride g
-stride-some true = omega arith
-stride-some false = omega arith
-
 table-down : (p : Params) (w : WalkState) (desc g s x o : ℕ) → Standing p w → w.level < 3 → s ≡ stride p.largegrain → x ≡ align_down (desc % 2 ^ 48) (g % 64)
     → Onwards p w record { tables = o; table = x; top = w.lsb; lsb = w.lsb - s; level = w.level + 1 }
-table-down p w desc g s x o st h es ex =
-    record {
-      level = refl;
-      stands =
-          record {
-            level = omega arith;
-            lsb = rw (es, st.lsb) (lsb-falls p.largegrain w.level h);
-            below_top = let n = stride-below p w s st h es in let k = stride-some p.largegrain in omega (arith, es);
-            top = omega (arith, st.below_top, st.top);
-            table = let le = align-le (desc % 2 ^ 48) (g % 64) in rw ex (omega arith);
-          };
-    }
+table-down p w desc g s x o st h es ex = grind arith
 
 pub table-leads : (p : Params) (w : WalkState) (desc g s x o : ℕ) → Standing p w → w.level < 3 → s ≡ stride p.largegrain → x
     ≡ align_down (desc % 2 ^ 48) (g % 64)
@@ -113,10 +81,7 @@ fault_leads p w status = fault
 
 -- the two parts of an output address fit together, wherever they meet
 pub parts_fit : (va desc x o n : ℕ) → x ≡ align_down (desc % 2 ^ 48) (n % 64) → o ≡ va % 2 ^ (n % 64) → x + o < 2 ^ 64
-parts_fit va desc x o n ex eo =
-    let a = align-le (desc % 2 ^ 48) (n % 64) in
-    let b : va % 2 ^ (n % 64) < 2 ^ 63 = lt_of_lt_of_le (mod-lt va (pow_pos (n % 64))) (pow_mono {i = n % 64} {j = 63} (omega arith)) in
-    rw (ex, eo) (omega arith)
+parts_fit va desc x o n ex eo = search rules
 
 pub ruleset addresses = (skip-fits, skip-more, index-fits, address-fits, address_is)
 

@@ -1,17 +1,15 @@
 -- The order of a walk's answers, row by row.
-use Rattle.std.specs.Prelude.{if◌then◌else◌, ◌≡◌, Bool, not, ◌&&◌, ◌||◌, ltb, [], Option, Some, None, Ok, Err}
+use Rattle.std.specs.Prelude.{◌≡◌, [], Option, Some, None, Ok, Err}
 use Rattle.std.proofs.Math.Path.{refl}
 use Rattle.std.proofs.Common.{ap, ◌∙◌}
 use Rattle.std.proofs.Math.Bool.{true, false}
-use Prim.Native.Nat.{ℕ, suc, ◌+◌, ◌-◌, ◌≤◌, ◌<◌}
+use Prim.Native.Nat.{ℕ, suc, ◌+◌, ◌-◌, ◌≤◌}
 use native.Mathlib.Omega.{arith}
-use borrow.Author.Tests.{eqb-true, eqb-false, ltb-true, ltb-false, eq-eqb, ne_eqb, lt-ltb, le-ltb}
-use Rattle.std.proofs.Math.Arith.{lt_of_le-ne}
-use Rattle.std.proofs.Math.Dec.{eqb}
+use borrow.Author.Tests.{ne_eqb}
 use Rattle.walk.specs.Regime.{wxn_of}
 use Rattle.sysreg.specs.Regs.{single_priv}
-use Rattle.walk.specs.Descriptor.{valid, table_or_page, af}
-use Rattle.walk.specs.Table.{Result, mapped, faults, address_size, translation, access_flag, external_abort, firstblocklevel, in_range, beyond, Lookup, Next}
+use Rattle.walk.specs.Descriptor.{valid, af}
+use Rattle.walk.specs.Table.{Result, mapped, faults, address_size, translation, access_flag, external_abort, in_range, beyond, Lookup, Next}
 use Rattle.walk.specs.Table.{deeper, ends, first_lookup, range_of, params_of, table_next, leaf_translation, leaf_result, level_next, descaddr, lookup_next}
 use Rattle.walk.specs.Table.{walk_from, walk_range, table_walk}
 use Rattle.walk.specs.Walk.{leaf_of, walked_of, walk_of}
@@ -20,24 +18,7 @@ use Rattle.walk.proofs.WalkBounds.{next_level}
 use Rattle.walk.specs.Fetches.{fetches_range, fetches_of}
 use Rattle.walk.specs.declared.{regime.Bank.Bank, level.Params.Params}
 use Rattle.sysreg.specs.declared.regs.Regime.{Regime}
-use Rattle.walk.specs.Order.{TableAt, table, LeafAt, page, block, NoLeafAt, last, early, Kind, is_invalid, is_table, is_no_leaf, is_leaf, params_at, Reached, entry, onward, Below}
-
-not_last : (n : ℕ) → n < 3 → eqb n 3 ≡ false
-not_last n h = ne_eqb n 3 (λ e. omega arith)
-
-block-first : (g : Bool) → firstblocklevel g ≤ 3
-block-first true = omega arith
-block-first false = omega arith
-
-early-not-last : (g : Bool) (n : ℕ) → n < firstblocklevel g → n < 3
-early-not-last g n h = omega (arith, block-first g)
-
-or-true : (a : Bool) → (a || true) ≡ true
-or-true true = refl
-or-true false = refl
-
-true-false : true ≡ false → ⊥
-true-false e = let z : ◌≡◌ {A = ℕ} 0 1 = cc in omega arith
+use Rattle.walk.specs.Order.{TableAt, LeafAt, NoLeafAt, Kind, params_at, Reached, entry, onward, Below}
 
 record LeadsTo (x : Next) : Type 0 where
   next : Lookup
@@ -45,17 +26,7 @@ record LeadsTo (x : Next) : Type 0 where
 
 -- no descriptor is left out
 pub kind-of : (p : Params) (l : Lookup) (desc : ℕ) → l.level ≤ 3 → Kind p l desc
-kind-of p l desc h = go (valid desc) (table_or_page desc) (eqb l.level 3) (ltb l.level (firstblocklevel p.largegrain)) refl refl refl refl
-  where
-    go : (v t e f : Bool) → valid desc ≡ v → table_or_page desc ≡ t → eqb l.level 3 ≡ e → ltb l.level (firstblocklevel p.largegrain) ≡ f
-        → Kind p l desc
-    go false t e f ev et ee ef = is_invalid ev
-    go true true true f ev et ee ef = is_leaf (page (eqb-true l.level 3 ee) ev et)
-    go true true false f ev et ee ef = is_table (table (lt_of_le-ne h (eqb-false l.level 3 ee)) ev et)
-    go true false true f ev et ee ef = is_no_leaf (last (eqb-true l.level 3 ee) et)
-    go true false false true ev et ee ef = is_no_leaf (early (ltb-true l.level (firstblocklevel p.largegrain) ef) et)
-    go true false false false ev et ee ef =
-        is_leaf (block (ltb-false l.level (firstblocklevel p.largegrain) ef) (lt_of_le-ne h (eqb-false l.level 3 ee)) ev et)
+kind-of p l desc h = grind arith
 
 -- what one descriptor leads to
 module _ (p : Params) (va : ℕ) (l : Lookup) (desc : ℕ) where
@@ -66,59 +37,40 @@ module _ (p : Params) (va : ℕ) (l : Lookup) (desc : ℕ) where
 
   table-next : TableAt l desc → level_next p va l desc ≡ table_next p l desc
   unfolding level_next
-  table-next (table h v t) = rw (v, t, not_last l.level h)
+  table-next h = grind arith
 
   -- a table whose next address is too large
   pub large-table-next : TableAt l desc → beyond p.outputsize desc ≡ true → level_next p va l desc ≡ ends (faults (address_size l.level))
-  unfolding table_next
-  large-table-next t b = table-next t ∙ rw b
+  unfolding table_next level_next
+  large-table-next t b = grind (arith, ne_eqb)
 
   small-table : beyond p.outputsize desc ≡ false → LeadsTo (table_next p l desc)
   unfolding table_next
-  small-table b = go (beyond p.outputsize desc) _ b
-    where
-      go : (t : Bool) (k : Lookup) → t ≡ false → LeadsTo (if t then ends (faults (address_size l.level)) else deeper k)
-      go true k e = absurd (true-false e)
-      go false k e = record { next = k; is = refl }
+  small-table b = grind arith
 
   -- a page or block is judged by its size and access flag
   pub leaf-next : LeafAt p l desc → level_next p va l desc ≡ ends (leaf_result p va l desc)
   unfolding level_next
-  leaf-next (page h v t) = rw (v, t, eq-eqb l.level 3 h)
-  leaf-next (block k h v t) = rw (v, t, not_last l.level h)
-
-  leaf-allowed : LeafAt p l desc → ltb l.level (firstblocklevel p.largegrain) ≡ false
-  leaf-allowed (page h v t) = le-ltb l.level (firstblocklevel p.largegrain) (omega (arith, block-first p.largegrain))
-  leaf-allowed (block k h v t) = le-ltb l.level (firstblocklevel p.largegrain) k
+  leaf-next h = grind arith
 
   -- a leaf where there can be none, before its size is looked at
   pub no-leaf-next : NoLeafAt p l desc → level_next p va l desc ≡ ends (faults (translation l.level))
   unfolding level_next leaf_result
-  no-leaf-next (last h t) = rw (t, eq-eqb l.level 3 h, or-true)
-  no-leaf-next (early h t) = go (valid desc)
-    where
-      n : eqb l.level 3 ≡ false
-      n = not_last l.level (early-not-last p.largegrain l.level h)
-
-      go : (v : Bool) → (if not v || (eqb l.level 3 && not (table_or_page desc)) then ends (faults (translation l.level))
-          else if eqb l.level 3 || not (table_or_page desc) then ends (leaf_result p va l desc)
-          else table_next p l desc) ≡ ends (faults (translation l.level))
-      go true = rw (t, n, lt-ltb l.level (firstblocklevel p.largegrain) h)
-      go false = refl
+  no-leaf-next h = grind arith
 
   -- too large, whatever the access flag
   pub large-leaf : LeafAt p l desc → beyond p.outputsize desc ≡ true → leaf_result p va l desc ≡ faults (address_size l.level)
   unfolding leaf_result
-  large-leaf a b = rw (leaf-allowed a, b)
+  large-leaf a b = grind arith
 
   -- not too large: the access flag decides
   pub unused-leaf : LeafAt p l desc → beyond p.outputsize desc ≡ false → af desc ≡ false → leaf_result p va l desc ≡ faults (access_flag l.level)
   unfolding leaf_result
-  unused-leaf a b f = rw (leaf-allowed a, b, f)
+  unused-leaf a b f = grind arith
 
   pub used-leaf : LeafAt p l desc → beyond p.outputsize desc ≡ false → af desc ≡ true → leaf_result p va l desc ≡ mapped (leaf_translation p va l desc)
   unfolding leaf_result
-  used-leaf a b f = rw (leaf-allowed a, b, f)
+  used-leaf a b f = grind arith
 
 -- what holds of every table reached
 pub record Stage (s : Bank) (r : Regime) (va : ℕ) (memory : ℕ → Option ℕ) (l : Lookup) : Type 0 where
@@ -134,7 +86,7 @@ module _ (s : Bank) (r : Regime) (va : ℕ) (memory : ℕ → Option ℕ) where
   -- Walk entry, EPD set: 0x04, and nothing is fetched
   pub range-disabled : (range_of s r va).disabled ≡ true → (walk_of s r va memory ≡ Err 0x04) × (fetches_of s r va memory ≡ [])
   unfolding walk_of table_walk walk_range fetches_of fetches_range
-  range-disabled e = rw (e, or-true (not (in_range (range_of s r va) va))) (refl, refl)
+  range-disabled e = grind arith
 
   -- Walk entry, base beyond the output size: 0x00, and nothing is fetched
   pub base-too-large : in_range (range_of s r va) va ≡ true → (range_of s r va).disabled ≡ false
@@ -207,7 +159,8 @@ module _ (s : Bank) (r : Regime) (va : ℕ) (memory : ℕ → Option ℕ) where
 
       leaf-ends : (x : Result) → LeafAt (params_at s r va) l desc → leaf_result (params_at s r va) va l desc ≡ x
           → walk_of s r va memory ≡ walked_of (single_priv r) (wxn_of s) x
-      leaf-ends x h e = ends-walk l x reached (read _ (leaf-next (params_at s r va) va l desc h ∙ ap ends e))
+      unfolding lookup_next
+      leaf-ends x h e = grind (arith, ends-walk, leaf-next)
 
       -- Leaf, output too large: 0x00 + level, whatever the access flag
       pub leaf-too-large : LeafAt (params_at s r va) l desc → beyond (params_at s r va).outputsize desc ≡ true

@@ -1,18 +1,15 @@
 -- A walk goes by pages: addresses of one page have one walk but for the offset in the page, which is the address's own.
-use Rattle.std.specs.Prelude.{if◌then◌else◌, ◌≡◌, true, false, ◌&&◌, ◌||◌, eqb, ltb, Option, Some, None, Ok, Err}
+use Rattle.std.specs.Prelude.{◌≡◌, Option, Ok, Err}
 use Rattle.std.proofs.Math.Path.{refl, sym, ap}
 use Rattle.std.proofs.Common.{subst, ◌∙◌, arith}
-use Rattle.std.proofs.Math.Bool.{Bool, not}
+use Rattle.std.proofs.Math.Bool.{Bool}
 use mathlib.Core.List.{List, ◌∷◌}
-use Prim.Native.Nat.{ℕ, zero, suc, ◌+◌, ◌-◌, ◌/◌, ◌%◌, ◌^◌, ◌≤◌}
+use Prim.Native.Nat.{ℕ, zero, suc, ◌/◌, ◌%◌, ◌^◌, ◌≤◌}
 use Rattle.word.specs.Bits.{align_down}
 use Rattle.word.proofs.BitLaws.{same_above, join-above}
-use Rattle.walk.specs.Regime.{wxn_of}
-use Rattle.sysreg.specs.Regs.{single_priv}
-use Rattle.walk.specs.Descriptor.{valid, table_or_page, af}
-use Rattle.walk.specs.Table.{Translation, Result, mapped, faults, address_size, translation, access_flag, external_abort, firstblocklevel, inputsize}
-use Rattle.walk.specs.Table.{in_range, startlevel, addrselectbottom, beyond, outputaddress, Lookup, Next, deeper, ends, first_lookup, range_of, params_of}
-use Rattle.walk.specs.Table.{table_next, leaf_translation, leaf_result, level_next, descaddr, on_word, lookup_next, on_next, walk_from, walk_range, table_walk}
+use Rattle.walk.specs.Table.{Translation, Result, mapped, faults}
+use Rattle.walk.specs.Table.{addrselectbottom, outputaddress, Lookup, Next, deeper, ends, range_of}
+use Rattle.walk.specs.Table.{leaf_translation, leaf_result, level_next, descaddr, lookup_next, on_next, walk_from, walk_range, table_walk}
 use Rattle.walk.specs.Walk.{walked_of, walk_of}
 use Rattle.walk.proofs.SizeLaws.{input-low, index-above-page}
 use Rattle.walk.specs.WalkBounds.{SoundWalked}
@@ -21,8 +18,7 @@ use Rattle.walk.specs.Fetches.{after_next, fetches_from, fetches_range, fetches_
 use Rattle.walk.specs.declared.{regime.Bank.Bank, range.Range.Range, level.Params.Params}
 use Rattle.sysreg.specs.declared.regs.Regime.{Regime}
 use Rattle.walk.specs.declared.level.Leaf.{Leaf}
-use Rattle.sysreg.specs.declared.regs.Regime.TheVariants.{El1, El2, El3}
-use Rattle.walk.specs.PageLaws.{with_address, paged_leaf, paged, leaf_at}
+use Rattle.walk.specs.PageLaws.{paged_leaf, paged, leaf_at}
 use Rattle.walk.specs.Answers.{Walked}
 
 -- the same of the manual's results
@@ -48,8 +44,7 @@ deeper-ends : (l : Lookup) (r : Result) → deeper l ≡ ends r → ⊥
 deeper-ends l r e = let z : ◌≡◌ {A = ℕ} 0 1 = cc in omega arith
 
 paged-walked : (singlepriv wxn : Bool) (x : Result) → paged (walked_of singlepriv wxn x) ≡ walked_of singlepriv wxn (paged_result x)
-paged-walked singlepriv wxn (mapped t) = refl
-paged-walked singlepriv wxn (faults f) = refl
+paged-walked singlepriv wxn x = grind arith
 
 module _ (va vb : ℕ) (same : va / 2 ^ 12 ≡ vb / 2 ^ 12) where
   -- what is read of an address from bit 12 up
@@ -66,46 +61,19 @@ module _ (va vb : ℕ) (same : va / 2 ^ 12 ≡ vb / 2 ^ 12) where
 
     result-page : (l : Lookup) (desc : ℕ) → paged_result (leaf_result p va l desc) ≡ paged_result (leaf_result p vb l desc)
     unfolding leaf_result
-    result-page l desc = go (ltb l.level (firstblocklevel p.largegrain)) (beyond p.outputsize desc) (af desc)
-      where
-        leaf : Bool → Bool → Bool → ℕ → Result
-        leaf a b c v =
-            if a then faults (translation l.level)
-            else if b then faults (address_size l.level)
-            else if c then mapped (leaf_translation p v l desc) else faults (access_flag l.level)
-
-        go : (a b c : Bool) → paged_result (leaf a b c va) ≡ paged_result (leaf a b c vb)
-        go true b c = refl
-        go false true c = refl
-        go false false true = ap mapped (leaf-page l desc)
-        go false false false = refl
+    result-page l desc = grind (arith, leaf-page)
 
     level-page : (l : Lookup) (desc : ℕ) → paged_next (level_next p va l desc) ≡ paged_next (level_next p vb l desc)
     unfolding level_next
-    level-page l desc = go (not (valid desc) || (eqb l.level 3 && not (table_or_page desc))) (eqb l.level 3 || not (table_or_page desc))
-      where
-        next : Bool → Bool → ℕ → Next
-        next a b v = if a then ends (faults (translation l.level)) else if b then ends (leaf_result p v l desc) else table_next p l desc
-
-        go : (a b : Bool) → paged_next (next a b va) ≡ paged_next (next a b vb)
-        go true b = refl
-        go false true = ap ends (result-page l desc)
-        go false false = refl
+    level-page l desc = grind (arith, result-page)
 
     same_address : (l : Lookup) → descaddr p va l ≡ descaddr p vb l
     unfolding descaddr
-    same_address l = rw (above (addrselectbottom p.largegrain l.level) (index-above-page p.largegrain l.level))
+    same_address l = grind (arith, above, index-above-page)
 
     lookup-page : (memory : ℕ → Option ℕ) (l : Lookup) → paged_next (lookup_next memory p va l) ≡ paged_next (lookup_next memory p vb l)
     unfolding lookup_next
-    lookup-page memory l = rw (same_address l) (go (memory (descaddr p vb l)))
-      where
-        next : Option ℕ → ℕ → Next
-        next x v = on_word x (level_next p v l) (ends (faults (external_abort l.level)))
-
-        go : (x : Option ℕ) → paged_next (next x va) ≡ paged_next (next x vb)
-        go (Some desc) = level-page l desc
-        go None = refl
+    lookup-page memory l = grind (arith, same_address, level-page)
 
     from-page : (n : ℕ) (memory : ℕ → Option ℕ) (l : Lookup) → paged_result (walk_from n memory p va l) ≡ paged_result (walk_from n memory p vb l)
     unfolding walk_from
@@ -122,17 +90,7 @@ module _ (va vb : ℕ) (same : va / 2 ^ 12 ≡ vb / 2 ^ 12) where
 
     range-page : (g : Range) (memory : ℕ → Option ℕ) → paged_result (walk_range p g va memory) ≡ paged_result (walk_range p g vb memory)
     unfolding walk_range
-    range-page g memory =
-        let h : 12 ≤ inputsize g = omega (arith, input-low g) in
-        rw (above (inputsize g) h) (go (not (in_range g vb) || g.disabled) (beyond p.outputsize g.baseregister))
-      where
-        result : Bool → Bool → ℕ → Result
-        result a b v = if a then faults (translation 0) else if b then faults (address_size 0) else walk_from (4 - startlevel g) memory p v (first_lookup g)
-
-        go : (a b : Bool) → paged_result (result a b va) ≡ paged_result (result a b vb)
-        go true b = refl
-        go false true = refl
-        go false false = from-page (4 - startlevel g) memory (first_lookup g)
+    range-page g memory = grind (arith, input-low, above, from-page)
 
     fetches-page : (n : ℕ) (memory : ℕ → Option ℕ) (l : Lookup) → fetches_from n memory p va l ≡ fetches_from n memory p vb l
     unfolding fetches_from
@@ -150,30 +108,22 @@ module _ (va vb : ℕ) (same : va / 2 ^ 12 ≡ vb / 2 ^ 12) where
 
     fetches-range-page : (g : Range) (memory : ℕ → Option ℕ) → fetches_range p g va memory ≡ fetches_range p g vb memory
     unfolding fetches_range
-    fetches-range-page g memory =
-        let h : 12 ≤ inputsize g = omega (arith, input-low g) in
-        rw (above (inputsize g) h, fetches-page (4 - startlevel g) memory (first_lookup g))
+    fetches-range-page g memory = grind (arith, input-low, above, fetches-page)
 
   -- addresses of one page lie in one range
   pub range-of-page : (s : Bank) (r : Regime) → range_of s r va ≡ range_of s r vb
   unfolding range_of
-  range-of-page s El1 = rw (above 55 (omega arith))
-  range-of-page s El2 = refl
-  range-of-page s El3 = refl
+  range-of-page s r = grind arith
 
   -- and have one walk but for the offset
   pub walk_of-page : (s : Bank) (r : Regime) (memory : ℕ → Option ℕ) → paged (walk_of s r va memory) ≡ paged (walk_of s r vb memory)
   unfolding walk_of table_walk
-  walk_of-page s r memory =
-      let g = range_of s r vb in
-      rw (range-of-page s r) (paged-walked (single_priv r) (wxn_of s) (walk_range (params_of s r g) g va memory)
-      ∙ ap (walked_of (single_priv r) (wxn_of s)) (range-page (params_of s r g) g memory)
-      ∙ sym (paged-walked (single_priv r) (wxn_of s) (walk_range (params_of s r g) g vb memory)))
+  walk_of-page s r memory = grind (arith, range-of-page, paged-walked, range-page)
 
   -- and fetch the same descriptors
   pub fetches-of-page : (s : Bank) (r : Regime) (memory : ℕ → Option ℕ) → fetches_of s r va memory ≡ fetches_of s r vb memory
   unfolding fetches_of
-  fetches-of-page s r memory = rw (range-of-page s r) (fetches-range-page (params_of s r (range_of s r vb)) (range_of s r vb) memory)
+  fetches-of-page s r memory = grind (arith, range-of-page, fetches-range-page)
 
 -- the offset is the address's own
 pub leaf-offset : (s : Bank) (r : Regime) (va : ℕ) (memory : ℕ → Option ℕ) (leaf : Leaf) → walk_of s r va memory ≡ Ok leaf
@@ -187,9 +137,7 @@ fault-mapped : (n : ℕ) (x : Leaf) → ◌≡◌ {A = Walked} (Err n) (Ok x) �
 fault-mapped n x e = let z : ◌≡◌ {A = ℕ} 0 1 = cc in omega arith
 
 same-leaf : (x y : Leaf) (va : ℕ) → paged_leaf x ≡ paged_leaf y → y.oa % 2 ^ 12 ≡ va % 2 ^ 12 → y ≡ leaf_at x va
-same-leaf x y va e o =
-    let join : y.oa ≡ align_down y.oa 12 + va % 2 ^ 12 = omega arith in
-    ap (with_address y) join ∙ ap (λ (l : Leaf). with_address l (l.oa + va % 2 ^ 12)) (sym e)
+same-leaf x y va e o = grind arith
 
 module _ (s : Bank) (r : Regime) (va vb : ℕ) (memory : ℕ → Option ℕ) (same : va / 2 ^ 12 ≡ vb / 2 ^ 12) where
   -- so the leaf of one address of a page tells that of another

@@ -1,4 +1,3 @@
-use Rattle.std.specs.Prelude.{refl}
 use Rattle.word.specs.Ram.{word_at, little_endian, bytes_of}
 use Rattle.walk.specs.Tag.{untagged}
 use Rattle.walk.specs.Size.{pa_size}
@@ -10,4 +9,4 @@ use Rattle.walk.proofs.theorems.worked_translations.Goals as goal
 
 pub returns : goal.returns
 unfolding row translated judged registers walk_of table_walk walk_range walk_from lookup_next level_next leaf_result leaf_translation leaf_permissions table_next descaddr range_of params_of pa_size untagged word_at little_endian bytes_of
-returns c = record { answers = refl }
+returns c = assumption
