@@ -1,12 +1,11 @@
 -- What an access reads, by its one translation or its two.
+use Rattle.std.proofs.Common.{arith}
 use Rattle.std.specs.Prelude.{ℕ, true, false, Bool, Option, Ok, Err}
-use Rattle.std.proofs.Common.{◌≡◌, sym, ap, ◌∙◌}
+use Rattle.std.proofs.Common.{◌≡◌, sym}
 use Rattle.fault.specs.declared.Fault.{Fault}
-use Rattle.tlb.specs.Asks.{works}
 use Rattle.tlb.proofs.Asks.{onward-same}
 use Rattle.tlb.specs.declared.{access.Kind.Kind, work.Work.Work}
-use Rattle.cpu.specs.Asks.{access_at, asks_by}
-use Rattle.cpu.specs.Core.{after_access, bank_now}
+use Rattle.cpu.specs.Core.{after_access}
 use Rattle.cpu.specs.Memory.{stepped_now, translate_of}
 use Rattle.cpu.specs.OpLaws.{on_now}
 use Rattle.cpu.specs.Place.{next_page, crosses}
@@ -16,18 +15,10 @@ use Rattle.cpu.specs.Work.{translate_work, access_work}
 use Rattle.cpu.specs.declared.Core.{Core}
 
 module _ (c : Core) (memory : ℕ → Option ℕ) (va n : ℕ) (kind : Kind) (w : Work) where
-  -- by whether it crosses
-  abbrev works_by : Bool → Work
-  works_by b = works (access_at (bank_now c) c.privilege memory) (asks_by b va kind) c.tlb w
-
   -- where the first translation faults it is the only one
   pub first_work : (f : Fault) → (translate_of c memory va kind).answer ≡ Err f → translate_work c memory va kind w ≡ access_work c memory va n kind w
   unfolding translate_of stepped_now translate_in translate_work access_work
-  first_work f e = go (crosses (on_now c) va n)
-    where
-      go : (b : Bool) → translate_work c memory va kind w ≡ works_by b
-      go true = rw e
-      go false = rw e
+  first_work f e = grind arith
 
   pub one-work : crosses (on_now c) va n ≡ false → access_work c memory va n kind w ≡ translate_work c memory va kind w
   unfolding translate_work access_work
@@ -43,7 +34,4 @@ module _ (c : Core) (memory : ℕ → Option ℕ) (va n : ℕ) (kind : Kind) (w 
   pub second-work : (r : Translated) (v u : Work) (pa next m : ℕ) (on k : Bool) → r ≡ translate_of c memory va kind → v ≡ translate_work c memory va kind w
       → r.answer ≡ Ok pa → on ≡ on_now c → m ≡ n → k ≡ crosses on va m → k ≡ true → next ≡ next_page va
       → u ≡ translate_work r.core memory next kind v → u ≡ access_work c memory va n kind w
-  second-work r v u pa next m on k er ev e eo em ek k1 en eu =
-      eu
-      ∙ (λ i. translate_work (er i).core memory (en i) kind (ev i))
-      ∙ both-work pa (ap (λ (x : Translated). x.answer) (sym er) ∙ e) ((λ i. crosses (sym eo i) va (sym em i)) ∙ sym ek ∙ k1)
+  second-work r v u pa next m on k er ev e eo em ek k1 en eu = grind (arith, both-work)

@@ -1,16 +1,16 @@
 -- What a load answers and a store leaves, byte by byte.
-use Rattle.std.specs.Prelude.{if◌then◌else◌, ◌≡◌, ℕ, zero, suc, ◌+◌, ◌-◌, ◌*◌, ◌/◌, ◌%◌, ◌^◌, ◌<◌, ◌≤◌, Bool, true, false, List, length, ◌≢◌, nat_lt}
-use Rattle.std.specs.Prelude.{slice_index, Option, Ok, Err}
-use Rattle.std.proofs.Math.Path.{refl, ap}
+use Rattle.std.specs.Prelude.{◌≡◌, ℕ, zero, suc, ◌+◌, ◌-◌, ◌*◌, ◌/◌, ◌%◌, ◌^◌, ◌<◌, ◌≤◌, true, false, List, length, ◌≢◌}
+use Rattle.std.specs.Prelude.{slice_index, Option, Ok}
+use Rattle.std.proofs.Math.Path.{ap}
 use Rattle.std.proofs.Common.{sym, ◌∙◌, mod-eq_of_lt, div-one, le-leb}
 use Rattle.std.proofs.Math.Nat.{mod-mod, zero-add}
 use native.Mathlib.Omega.{arith}
 use Rattle.word.specs.Bits.{wrap}
-use Rattle.word.specs.Ram.{within, word_at, written, stored}
+use Rattle.word.specs.Ram.{within, word_at, stored}
 use Rattle.word.proofs.RamLaws.{within_low, within-high, digit-next, byte_of, written_byte}
 use Rattle.tlb.specs.declared.access.Kind.{Kind}
 use Rattle.tlb.specs.declared.access.Kind.TheVariants.{Read, Write}
-use Rattle.cpu.specs.Answers.{Placed, Verdict, LoadAnswer, outside_at}
+use Rattle.cpu.specs.Answers.{Placed, Verdict}
 use Rattle.cpu.specs.Place.{byte_at, verdict_of, bytes_before, address_in}
 use Rattle.cpu.proofs.PlaceLaws.{all-inside}
 use Rattle.cpu.specs.Bytes.{byte_in, split_value, split_stored, value_at, load_of, store_ram}
@@ -31,24 +31,16 @@ use Rattle.cpu.specs.ByteMeaning.{LoadsOwnBytes, StoreLeavesOthers, StoresOwnByt
 -- a byte of RAM
 small-in : (base : ℕ) (ram : List ℕ) (pa : ℕ) → ((k : ℕ) → slice_index ram k < 256) → byte_in base ram pa < 256
 unfolding byte_in
-small-in base ram pa small = go (within base (length ram) 1 pa)
-  where
-    go : (b : Bool) → (if b then slice_index ram (pa - base) else 0) < 256
-    go true = small (pa - base)
-    go false = omega arith
+small-in base ram pa small = grind arith
 
 there-in : (base : ℕ) (ram : List ℕ) (pa : ℕ) → base ≤ pa → pa < base + length ram → byte_in base ram pa ≡ slice_index ram (pa - base)
 unfolding byte_in
 there-in base ram pa h k = rw (le-leb base pa h, le-leb (pa + 1) (base + length ram) (omega arith))
 
--- a store of n bytes in RAM
-stored-inside : (base : ℕ) (ram : List ℕ) (n pa v : ℕ) → base ≤ pa → pa + n ≤ base + length ram → stored base ram n pa v ≡ written ram (pa - base) n v
-unfolding stored
-stored-inside base ram n pa v h k = rw (le-leb _ _ h, le-leb _ _ k)
-
 stored-byte : (base : ℕ) (ram : List ℕ) (n pa v i : ℕ) → base ≤ pa → pa + n ≤ base + length ram → i < n
     → slice_index (stored base ram n pa v) (pa - base + i) ≡ v / 256 ^ i % 256
-stored-byte base ram n pa v i h k l = rw (stored-inside base ram n pa v h k) (written_byte ram (pa - base) n v i (omega arith) l)
+unfolding stored
+stored-byte base ram n pa v i h k l = grind (arith, written_byte, le-leb)
 
 -- byte i of a split value is the byte at byte i's place
 split-digit : (base : ℕ) (ram : List ℕ) (p : Pages) (s n i : ℕ) → ((k : ℕ) → slice_index ram k < 256) → i < n
@@ -97,19 +89,7 @@ split-byte base p v s (suc n) (suc i) ram h w last =
 -- BYTES OF AN ACCESS THAT LIES IN RAM
 
 wrap-at : (p : Pages) (i : ℕ) → wrap (byte_at p i) ≡ byte_at p i
-wrap-at p i = go (nat_lt i p.in_page)
-  where
-    go : (b : Bool) → wrap (if b then wrap (p.pa + i) else wrap (p.pa2 + (i - p.in_page))) ≡ (if b then wrap (p.pa + i) else wrap (p.pa2 + (i - p.in_page)))
-    go true = mod-mod (p.pa + i) (2 ^ 64)
-    go false = mod-mod (p.pa2 + (i - p.in_page)) (2 ^ 64)
-
-whole-inside : (base len n pa : ℕ) → verdict_of base len (Whole pa) n ≡ Ok tt → within base len n pa ≡ true
-unfolding verdict_of
-whole-inside base len n pa = go (within base len n pa)
-  where
-    go : (b : Bool) → ◌≡◌ {A = Verdict} (if b then Ok tt else Err (outside_at 0 pa)) (Ok tt) → b ≡ true
-    go true e = refl
-    go false e = let z : ◌≡◌ {A = ℕ} 0 1 = cc in absurd (omega arith)
+wrap-at p i = grind arith
 
 split-inside : (base len n i : ℕ) (p : Pages) → verdict_of base len (Split p) n ≡ Ok tt → i < n → within base len 1 (byte_at p i) ≡ true
 unfolding verdict_of
@@ -118,35 +98,24 @@ split-inside base len n i p e h = all-inside base len p 0 n e i (omega arith) (o
 module _ (base : ℕ) (ram : List ℕ) (n i : ℕ) (window : base + length ram ≤ 2 ^ 64) (h : i < n) where
   module _ (pa : ℕ) (e : verdict_of base (length ram) (Whole pa) n ≡ Ok tt) where
     whole-low : base ≤ pa
-    whole-low = within_low base (length ram) n pa (whole-inside base (length ram) n pa e)
+    unfolding verdict_of
+    whole-low = grind (arith, within_low)
 
     whole-high : pa + n ≤ base + length ram
-    whole-high = within-high base (length ram) n pa (whole-inside base (length ram) n pa e)
+    unfolding verdict_of
+    whole-high = grind (arith, within-high)
 
     whole-at : wrap (pa + i) ≡ pa + i
-    whole-at = let k = whole-high in mod-eq_of_lt (omega arith)
+    unfolding verdict_of
+    whole-at = grind (arith, mod-eq_of_lt, within-high)
 
   in_window : (place : Place) → verdict_of base (length ram) place n ≡ Ok tt → within base (length ram) 1 (wrap (address_in place i)) ≡ true
-  in_window (Whole pa) e =
-      let l = whole-low pa e in
-      let k = whole-high pa e in
-      rw (whole-at pa e, le-leb base (pa + i) (omega arith), le-leb (pa + i + 1) (base + length ram) (omega arith))
-  in_window (Split p) e = rw (wrap-at p i) (split-inside base (length ram) n i p e h)
+  unfolding verdict_of
+  in_window place e = grind (arith, le-leb, within_low, within-high, mod-eq_of_lt, mod-mod, all-inside)
 
   value-byte : ((k : ℕ) → slice_index ram k < 256) → (place : Place) → verdict_of base (length ram) place n ≡ Ok tt
       → value_at base ram place n / 256 ^ i % 256 ≡ byte_in base ram (wrap (address_in place i))
-  value-byte small (Whole pa) e =
-      let l = whole-low pa e in
-      let k = whole-high pa e in
-      let x : pa - base + i ≡ pa + i - base = omega arith in
-      byte_of ram n (pa - base) i small h
-      ∙ ap (λ (j : ℕ). slice_index ram j) x
-      ∙ sym (there-in base ram (pa + i) (omega arith) (omega arith))
-      ∙ ap (byte_in base ram) (sym (whole-at pa e))
-  value-byte small (Split p) e =
-      split-digit base ram p 0 n i small h
-      ∙ ap (λ (j : ℕ). byte_in base ram (byte_at p j)) (zero-add i)
-      ∙ ap (byte_in base ram) (sym (wrap-at p i))
+  value-byte small place e = grind (arith, whole-low, whole-high, byte_of, there-in, whole-at, split-digit, zero-add, wrap-at)
 
   store-digit : (v : ℕ) (place : Place) → verdict_of base (length ram) place n ≡ Ok tt
       → ((j : ℕ) → i < j → j < n → wrap (address_in place j) ≢ wrap (address_in place i))
@@ -182,18 +151,7 @@ module _ (c : Core) (base : ℕ) (ram : List ℕ) (va n : ℕ) where
 
   loaded : (v : ℕ) → (read_of c base ram va n).answer ≡ Ok v → Loaded v
   unfolding read_of load_end load_of
-  loaded v = go (placed_for Read) refl
-    where
-      value-is : (x : ℕ) → ◌≡◌ {A = LoadAnswer} (Ok x) (Ok v) → v ≡ x
-      value-is x q = cc
-
-      go : (x : Placed) → placed_for Read ≡ x → (load_end x c.last_pa c.abort_pa base ram va n).answer ≡ Ok v → Loaded v
-      go (Err failed) e q = let z : ◌≡◌ {A = ℕ} 0 1 = cc in absurd (omega arith)
-      go (Ok place) e q = verdict (verdict_of base (length ram) place n) refl
-        where
-          verdict : (d : Verdict) → verdict_of base (length ram) place n ≡ d → Loaded v
-          verdict (Ok x) d = record { place = place; placed = e; inside = d; value = value-is _ (rw d at q) }
-          verdict (Err out) d = let z = rw d at q in let w : ◌≡◌ {A = ℕ} 0 1 = cc in absurd (omega arith)
+  loaded v = grind arith
 
   record Done : Type 0 where
     place : Place
@@ -202,15 +160,7 @@ module _ (c : Core) (base : ℕ) (ram : List ℕ) (va n : ℕ) where
 
   done : (write_of c base ram va n).answer ≡ Ok tt → Done
   unfolding write_of store_end
-  done = go (placed_for Write) refl
-    where
-      go : (x : Placed) → placed_for Write ≡ x → (store_end x c.abort_pa base ram va n).answer ≡ Ok tt → Done
-      go (Err failed) e q = let z : ◌≡◌ {A = ℕ} 0 1 = cc in absurd (omega arith)
-      go (Ok place) e q = verdict (verdict_of base (length ram) place n) refl
-        where
-          verdict : (d : Verdict) → verdict_of base (length ram) place n ≡ d → Done
-          verdict (Ok x) d = record { place = place; placed = e; inside = d }
-          verdict (Err out) d = let z = rw d at q in let w : ◌≡◌ {A = ℕ} 0 1 = cc in absurd (omega arith)
+  done = grind arith
 
 pub load_byte : LoadsOwnBytes
 load_byte c base ram va n v i ready small e h =

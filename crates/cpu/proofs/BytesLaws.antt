@@ -1,40 +1,22 @@
 -- Laws of bytes moved: RAM keeps its length, a store changes its own bytes only, and a split value is a plain one where the pages lie side by side.
+use Rattle.std.proofs.lemmas.Grind.{common_steps}
 use Rattle.std.specs.Prelude.{if◌then◌else◌, ◌≡◌, ℕ, zero, suc, ◌+◌, ◌-◌, ◌/◌, ◌<◌, ◌≤◌, Bool, true, false, ◌&&◌, List, ◌++◌, length, take, drop, ◌≢◌}
-use Rattle.std.specs.Prelude.{nat_le, nat_lt, slice_index, refl, Ok, Err}
-use Rattle.std.proofs.Common.{sym, ap, ◌∙◌, arith, leb-true, leb-false, ltb-true, ltb-false, le-leb, length-take-le, get_or-append-add, get_or-take, get_or-drop}
-use Rattle.std.proofs.Math.ListN.{get_or-append}
-use Rattle.word.specs.Ram.{little_endian, bytes_of, within, written, stored}
+use Rattle.std.specs.Prelude.{nat_le, nat_lt, slice_index, refl, Err}
+use Rattle.std.proofs.Common.{sym, ap, ◌∙◌, arith, leb-true, leb-false, ltb-true, ltb-false, length-take-le, get_or-append-add, get_or-drop}
+use Rattle.word.specs.Ram.{bytes_of, written, stored}
 use Rattle.word.proofs.RamLaws.{length-bytes}
 use Rattle.cpu.specs.Place.{byte_at, first_outside, verdict_of, bytes_before, address_in}
 use Rattle.cpu.proofs.PlaceLaws.{before-le}
-use Rattle.cpu.specs.Bytes.{byte_in, split_value, split_stored, store_ram}
+use Rattle.cpu.specs.Bytes.{split_stored, store_ram}
 use Rattle.cpu.specs.declared.{place.Pages.Pages, place.Place.Place}
 use Rattle.cpu.specs.declared.place.Place.TheVariants.{Whole, Split}
-use Rattle.cpu.specs.Answers.{Verdict, outside_at}
+use Rattle.cpu.specs.Answers.{outside_at}
 use Rattle.std.proofs.Common.{length-append, length-drop}
-
-written-length : (ram : List ℕ) (at n v : ℕ) → at + n ≤ length ram → length (written ram at n v) ≡ length ram
-written-length ram at n v h =
-    let a = length-append (take at ram) (bytes_of n v ++ drop n (drop at ram)) in
-    let b = length-append (bytes_of n v) (drop n (drop at ram)) in
-    let c = length-take-le at ram (omega arith) in
-    let d = length-drop n (drop at ram) in
-    let e = length-drop at ram in
-    omega (arith, length-bytes n v)
 
 -- a store keeps RAM's length
 pub stored-length : (base : ℕ) (ram : List ℕ) (n pa v : ℕ) → length (stored base ram n pa v) ≡ length ram
 unfolding stored
-stored-length base ram n pa v = go (nat_le base pa) (nat_le (pa + n) (base + length ram)) refl refl
-  where
-    go : (a b : Bool) → nat_le base pa ≡ a → nat_le (pa + n) (base + length ram) ≡ b
-        → length (if a && b then written ram (pa - base) n v else ram) ≡ length ram
-    go true true ea eb =
-        let h : base ≤ pa = leb-true _ _ ea in
-        let k : pa + n ≤ base + length ram = leb-true _ _ eb in
-        written-length ram (pa - base) n v (omega arith)
-    go true false ea eb = refl
-    go false b ea eb = refl
+stored-length base ram n pa v = grind (arith, leb-true, length-append, length-take-le, length-drop, length-bytes)
 
 pub split-length : (base : ℕ) (p : Pages) (v i n : ℕ) (ram : List ℕ) → length (split_stored base p v i n ram) ≡ length ram
 unfolding split_stored
@@ -44,25 +26,17 @@ split-length base p v i (suc n) ram =
 
 pub store_length : (base : ℕ) (ram : List ℕ) (place : Place) (n v : ℕ) → length (store_ram base ram place n v) ≡ length ram
 unfolding store_ram
-store_length base ram (Whole pa) n v = stored-length base ram n pa v
-store_length base ram (Split p) n v = split-length base p v 0 (bytes_before (verdict_of base (length ram) (Split p) n) n) ram
+store_length base ram place n v = grind (arith, stored-length, split-length)
 
 -- an access that is not split and has a byte outside moves nothing
 pub whole-or-none : (base : ℕ) (ram : List ℕ) (pa n v i q : ℕ) → verdict_of base (length ram) (Whole pa) n ≡ Err (outside_at i q)
     → store_ram base ram (Whole pa) n v ≡ ram
 unfolding verdict_of store_ram stored
-whole-or-none base ram pa n v i q = go (within base (length ram) n pa)
-  where
-    go : (b : Bool) → ◌≡◌ {A = Verdict} (if b then Ok tt else Err (outside_at 0 pa)) (Err (outside_at i q))
-        → (if b then written ram (pa - base) n v else ram) ≡ ram
-    go true e = let z : ◌≡◌ {A = ℕ} 0 1 = cc in absurd (omega arith)
-    go false e = refl
+whole-or-none base ram pa n v i q = grind arith
 
 module _ (ram : List ℕ) (at n v k : ℕ) (fits : at + n ≤ length ram) where
   below : k < at → slice_index (written ram at n v) k ≡ slice_index ram k
-  below h =
-      let l : length (take at ram) ≡ at = length-take-le at ram (omega arith) in
-      get_or-append (take at ram) (bytes_of n v ++ drop n (drop at ram)) 0 k (rw l h) ∙ get_or-take at ram k 0 h
+  below h = grind (arith, common_steps)
 
   above : at + n ≤ k → slice_index (written ram at n v) k ≡ slice_index ram k
   above h =
@@ -120,14 +94,3 @@ store-leaves base ram (Split p) n v k none =
     split-leaves base p v 0 (bytes_before (first_outside base (length ram) p 0 n) n) k ram (λ i a b. none i (omega arith))
 
 -- PAGES SIDE BY SIDE
-
--- where the bytes of a split access follow one another in RAM, their value is that of a whole access
-pub side_by_side : (base : ℕ) (ram : List ℕ) (p : Pages) (pa s n : ℕ) → ((i : ℕ) → s ≤ i → i < s + n → byte_at p i ≡ pa + i)
-    → base ≤ pa + s → pa + s + n ≤ base + length ram → split_value base ram p s n ≡ little_endian ram n (pa + s - base)
-unfolding split_value little_endian byte_in
-side_by_side base ram p pa s zero row h e = refl
-side_by_side base ram p pa s (suc n) row h e =
-    let ih = side_by_side base ram p pa (s + 1) n (λ i a b. row i (omega arith) (omega arith)) (omega arith) (omega arith) in
-    let here : byte_at p s ≡ pa + s = row s (omega arith) (omega arith) in
-    let q : pa + (s + 1) - base ≡ pa + s - base + 1 = omega arith in
-    rw (ih, here, le-leb base (pa + s) h, le-leb (pa + s + 1) (base + length ram) (omega arith), q)

@@ -1,4 +1,5 @@
 -- A census moves nothing: neither cache and counters nor anything else of the core, nor RAM.
+use Rattle.std.proofs.Common.{arith}
 use Rattle.std.specs.Prelude.{◌≡◌, ℕ, zero, suc, List}
 use Rattle.std.proofs.Math.Path.{refl}
 use Rattle.cpu.specs.declared.Core.{Core}
@@ -18,8 +19,4 @@ module _ (c : Core) (base : ℕ) (ram : List ℕ) (first pages : ℕ) where
 
   pub census-ram : ram_after c base ram (Census first pages) ≡ ram
   unfolding ram_after ram_of
-  census-ram = go (missed_by c base ram (Census first pages))
-    where
-      go : (n : ℕ) → refused_or n (λ k. ram) (ram_of c base ram (Census first pages)) ≡ ram
-      go zero = refl
-      go (suc n) = refl
+  census-ram = grind arith

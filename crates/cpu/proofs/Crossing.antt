@@ -1,6 +1,7 @@
 -- Of an access over two pages the lowest failing byte decides.
+use Rattle.std.proofs.Common.{rules}
 use Rattle.std.specs.Prelude.{if◌then◌else◌, nat_lt, Option, Some, None, Ok, Err, unwrap_or, ◌⊎◌, ◌≢◌}
-use Rattle.std.proofs.Common.{◌≡◌, ℕ, zero, suc, ◌+◌, ◌^◌, ◌<◌, ◌≤◌, Bool, true, false, length, sym, refl, ap, ◌∙◌, inl, inr, arith, ltb-true, ltb-false, lt-ltb, le-ltb}
+use Rattle.std.proofs.Common.{◌≡◌, ℕ, ◌+◌, ◌^◌, ◌<◌, ◌≤◌, Bool, true, false, length, sym, refl, ap, ◌∙◌, inl, inr, arith, ltb-true, ltb-false, lt-ltb, le-ltb}
 use Rattle.word.specs.Bits.{wrap}
 use Rattle.word.specs.Ram.{within}
 use Rattle.fault.specs.declared.Fault.{Fault}
@@ -26,12 +27,10 @@ abbrev meets : Bool → Option Fault
 meets w = if w then None else Some external
 
 meets-out : (w : Bool) (f : Fault) → meets w ≡ Some f → (w ≡ false) × (f ≡ external)
-meets-out true f e = let z : ◌≡◌ {A = ℕ} 0 1 = cc in absurd (omega arith)
-meets-out false f e = (refl, cc)
+meets-out w f e = grind arith
 
 meets-none : (w : Bool) → meets w ≡ None → w ≡ true
-meets-none true e = refl
-meets-none false e = let z : ◌≡◌ {A = ℕ} 0 1 = cc in absurd (omega arith)
+meets-none w e = grind arith
 
 -- WHICH BYTE IS JUDGED THE LOWEST
 
@@ -74,17 +73,9 @@ module _ (base len : ℕ) (p : Pages) (n : ℕ) where
           absurd (never (lies o.index) (each o.index (omega arith)) (ap (within base len 1) (sym l.at) ∙ l.out))
 
 module _ (base len va n : ℕ) where
-  some : 0 < in_page va
-  some = omega arith
-
   -- THE FIRST PAGE FAULTS
   first-fails : (g : Fault) (b : Answer) (i : ℕ) (f : Fault) → LowestFails base len va (Err g) b n i f → (i ≡ 0) × (f ≡ g)
-  first-fails g b zero f l =
-      let h : ◌≡◌ {A = Option Fault} (Some g) (Some f) = rw (lt-ltb 0 (in_page va) some) at l.here in (refl, cc)
-  first-fails g b (suc i) f l =
-      let h : ◌≡◌ {A = Option Fault} (Some g) None = rw (lt-ltb 0 (in_page va) some) at (l.before 0 (omega arith)) in
-      let z : ◌≡◌ {A = ℕ} 0 1 = cc in
-      absurd (omega arith)
+  first-fails g b i f l = search rules
 
   -- BOTH TRANSLATE
   module _ (pa pa2 : ℕ) where
@@ -92,18 +83,10 @@ module _ (base len va n : ℕ) where
     pages = record { in_page = in_page va; pa = pa; pa2 = pa2 }
 
     both-meet : (i : ℕ) → byte_fails base len va (Ok pa) (Ok pa2) i ≡ meets (within base len 1 (byte_at pages i))
-    both-meet i = go (nat_lt i (in_page va)) refl
-      where
-        go : (x : Bool) → nat_lt i (in_page va) ≡ x → byte_fails base len va (Ok pa) (Ok pa2) i ≡ meets (within base len 1 (byte_at pages i))
-        go true e = rw e refl
-        go false e = rw e refl
+    both-meet i = grind arith
 
     both-lie : (i : ℕ) → byte_lies va (Ok pa) (Ok pa2) i ≡ Some (byte_at pages i)
-    both-lie i = go (nat_lt i (in_page va)) refl
-      where
-        go : (x : Bool) → nat_lt i (in_page va) ≡ x → byte_lies va (Ok pa) (Ok pa2) i ≡ Some (byte_at pages i)
-        go true e = rw e refl
-        go false e = rw e refl
+    both-lie i = grind arith
 
     both-fail : (i : ℕ) (f : Fault) → LowestFails base len va (Ok pa) (Ok pa2) n i f
         → (first_outside base len pages 0 n ≡ Err (outside_at i (byte_at pages i))) × (f ≡ external)
@@ -112,7 +95,7 @@ module _ (base len va n : ℕ) where
         (judged-at base len pages n i l.below here.0 (λ j h. meets-none _ (sym (both-meet j) ∙ l.before j h)), here.1)
 
     none-fails : NoneFails base len va (Ok pa) (Ok pa2) n → first_outside base len pages 0 n ≡ Ok tt
-    none-fails l = judged-inside base len pages n (λ j h. meets-none _ (sym (both-meet j) ∙ l j h))
+    none-fails l = grind (arith, judged-inside)
 
   -- THE SECOND FAULTS
   module _ (pa : ℕ) (g : Fault) where
@@ -171,39 +154,16 @@ module _ (base len va n : ℕ) where
 
     half-stops : (write : Bool) (i : ℕ) (f : Fault) → LowestFails base len va (Ok pa) (Err g) n i f
         → failed_access part (second_fault_at (next_page va) pa g) va write ≡ data_abort (wrap (va + i)) write f
-    half-stops write i f l = elim (half-fails i f l) [ inl h ↦ in-part h | inr h ↦ past-part h ]
-      where
-        in-part : HalfIn i f → failed_access part (second_fault_at (next_page va) pa g) va write ≡ data_abort (wrap (va + i)) write f
-        in-part h =
-            ap (λ (d : Verdict). failed_access d (second_fault_at (next_page va) pa g) va write) h.judged
-            ∙ ap (λ (x : Fault). data_abort (wrap (va + i)) write x) (sym h.met)
-
-        past-part : HalfPast i f → failed_access part (second_fault_at (next_page va) pa g) va write ≡ data_abort (wrap (va + i)) write f
-        past-part h =
-            ap (λ (d : Verdict). failed_access d (second_fault_at (next_page va) pa g) va write) h.judged
-            ∙ ap (λ (k : ℕ). data_abort k write g) (at-part i h.at)
-            ∙ ap (λ (x : Fault). data_abort (wrap (va + i)) write x) (sym h.met)
+    half-stops write i f l = grind (arith, half-fails, inl, inr, at-part)
 
     half-aborts : (abort i : ℕ) (f : Fault) → LowestFails base len va (Ok pa) (Err g) n i f
         → abort_after part abort ≡ unwrap_or (byte_lies va (Ok pa) (Err g) i) abort
-    half-aborts abort i f l = elim (half-fails i f l) [ inl h ↦ in-part h | inr h ↦ past-part h ]
-      where
-        in-part : HalfIn i f → abort_after part abort ≡ unwrap_or (byte_lies va (Ok pa) (Err g) i) abort
-        in-part h = rw (h.judged, lt-ltb i (in_page va) h.before) refl
-
-        past-part : HalfPast i f → abort_after part abort ≡ unwrap_or (byte_lies va (Ok pa) (Err g) i) abort
-        past-part h =
-            let k : in_page va ≤ i = omega (arith, h.at) in
-            rw (h.judged, le-ltb i (in_page va) k) refl
+    half-aborts abort i f l = grind (arith, half-fails, inl, inr, lt-ltb, le-ltb)
 
 -- THE RULE
 
-own-address : (va i : ℕ) → va < 2 ^ 64 → i ≡ 0 → va ≡ wrap (va + i)
-own-address va i h e = omega arith
-
 first-stops : (va i : ℕ) (f g : Fault) (write : Bool) → va < 2 ^ 64 → (i ≡ 0) × (f ≡ g) → data_abort va write g ≡ data_abort (wrap (va + i)) write f
-first-stops va i f g write h e =
-    ap (λ (k : ℕ). data_abort k write g) (own-address va i h e.0) ∙ ap (λ (x : Fault). data_abort (wrap (va + i)) write x) (sym e.1)
+first-stops va i f g write h e = grind arith
 
 pub load-fails : LoadFails
 unfolding load_end load_of verdict_of
@@ -244,17 +204,10 @@ aborts-at base ram va n (Ok pa) (Ok pa2) last abort i f wide cross l =
 
 -- a page that faults fails at its first byte
 none-first : (base len va n : ℕ) (g : Fault) (b : Answer) → in_page va < n → NoneFails base len va (Err g) b n → ⊥
-none-first base len va n g b cross l =
-    let k : 0 < in_page va = omega arith in
-    let h : ◌≡◌ {A = Option Fault} (Some g) None = rw (lt-ltb 0 (in_page va) k) at (l 0 (omega arith)) in
-    let z : ◌≡◌ {A = ℕ} 0 1 = cc in
-    omega arith
+none-first base len va n g b cross l = grind arith
 
 none-second : (base len va n pa : ℕ) (g : Fault) → in_page va < n → NoneFails base len va (Ok pa) (Err g) n → ⊥
-none-second base len va n pa g cross l =
-    let h : ◌≡◌ {A = Option Fault} (Some g) None = sym (half-faults base len va n pa g (in_page va) (omega arith)) ∙ l (in_page va) cross in
-    let z : ◌≡◌ {A = ℕ} 0 1 = cc in
-    omega arith
+none-second base len va n pa g cross l = grind arith
 
 pub none-aborts : NoneAborts
 unfolding load_end load_of store_end verdict_of
@@ -271,40 +224,21 @@ none-aborts base ram va n (Ok pa) (Ok pa2) last abort cross l =
 
 pub last-stays : LastStays
 unfolding load_end load_of
-last-stays base ram va n (Err g) b last abort = refl
-last-stays base ram va n (Ok pa) (Err g) last abort = refl
-last-stays base ram va n (Ok pa) (Ok pa2) last abort = go (verdict_of base (length ram) (Split (pages base (length ram) va n pa pa2)) n)
-  where
-    go : (d : Verdict)
-        → (loaded_from (Split (pages base (length ram) va n pa pa2)) (got_by d (value_at base ram (Split (pages base (length ram) va n pa pa2)) n)) abort va).last_pa ≡ pa
-    go (Ok x) = refl
-    go (Err out) = refl
+last-stays base ram va n h b last abort = grind arith
 
 pub half-moves-nothing : HalfMovesNothing
 unfolding store_ram_end
-half-moves-nothing base ram va n v (Ok pa) f = (refl, refl)
-half-moves-nothing base ram va n v (Err g) f = (refl, refl)
+half-moves-nothing base ram va n v h f = grind arith
 
 -- WHAT CHANGED
 
 pub one-page-stays : OnePageStays
 unfolding load_end store_end
-one-page-stays base ram va n (Ok pa) last abort = (refl, refl)
-one-page-stays base ram va n (Err g) last abort = (refl, refl)
+one-page-stays base ram va n h last abort = grind arith
 
 pub crossings-stay : CrossingsStay
 unfolding load_end store_end
-crossings-stay base ram va n (Err g) b last abort inside = (refl, refl)
-crossings-stay base ram va n (Ok pa) (Ok pa2) last abort inside = (refl, refl)
-crossings-stay base ram va n (Ok pa) (Err g) last abort inside =
-    let judged = judged-inside base (length ram) (half base (length ram) va n pa g) (in_page va) (λ j h. rw (lt-ltb j (in_page va) h) (inside pa j g refl refl h)) in (
-      ap (λ (d : Verdict). record { last_pa = last; abort_pa = abort_after d abort; answer = Err (failed_access d (second_fault_at (next_page va) pa g) va false) }) judged,
-      ap (λ (d : Verdict). record { abort_pa = abort_after d abort; answer = Err (failed_access d (second_fault_at (next_page va) pa g) va true) }) judged,
-    )
-
--- a byte of the first page does not stand where the second begins
-apart : (va k : ℕ) → va < 2 ^ 64 → k < in_page va → wrap (va + k) ≢ next_page va
-apart va k h l e = omega arith
+crossings-stay base ram va n h b last abort inside = grind (arith, judged-inside, lt-ltb)
 
 -- a byte of the first page that lies outside is the lowest, or behind one that is
 part-judged : (base len va n pa i : ℕ) (g : Fault) → i < in_page va → within base len 1 (wrap (pa + i)) ≡ false
@@ -327,7 +261,7 @@ stored_at a w f s e = let t : data_abort a w f ≡ s = cc in ap stop_address (sy
 
 differ : (va k : ℕ) (x y : Stop) → va < 2 ^ 64 → k < in_page va → stop_address x ≡ Some (wrap (va + k)) → stop_address y ≡ Some (next_page va)
     → stop_address x ≢ stop_address y
-differ va k x y wide below now before e = apart va k wide below (ap (λ (o : Option ℕ). unwrap_or o 0) (sym now ∙ e ∙ before))
+differ va k x y wide below now before e = grind arith
 
 pub these-change : TheseChange
 unfolding load_end store_end

@@ -1,15 +1,13 @@
 -- Every call ends as one of its ways.
 use Rattle.cpu.specs.Results.{Stored}
-use Rattle.std.specs.Prelude.{if◌then◌else◌, ◌≡◌, ℕ, zero, suc, ◌+◌, ◌≤◌, Bool, true, false, ◌&&◌, List, [], ◌∷◌, length, ◌==◌, nat_le, Option, Some, None, Ok, Err}
+use Rattle.std.specs.Prelude.{if◌then◌else◌, ◌≡◌, ℕ, zero, suc, ◌+◌, ◌≤◌, Bool, true, false, List, [], ◌∷◌, length, Option, Some, None, Ok, Err}
 use Rattle.std.proofs.Math.Path.{refl, ap, subst⁻¹}
-use Rattle.std.proofs.Common.{sym, ◌∙◌, arith, leb-true}
+use Rattle.std.proofs.Common.{sym, ◌∙◌, arith}
 use Rattle.std.proofs.lemmas.Bool.{not-false}
 use Rattle.word.specs.Bits.{wrap, align_down}
-use Rattle.word.proofs.BitLaws.{both}
-use Rattle.word.specs.Ram.{word_at, width_of, bytes_in, within}
+use Rattle.word.specs.Ram.{word_at, width_of, within}
 use Rattle.sysreg.specs.Encoding.{register_at}
-use Rattle.sysreg.specs.Regs.{in_control}
-use Rattle.sysreg.specs.Write.{names, control_with, sys_with, ended, write_found, write_reg, WriteAnswer}
+use Rattle.sysreg.specs.Write.{names, write_found, write_reg, WriteAnswer}
 use Rattle.sysreg.specs.declared.{regs.Control.Control, regs.SysRegs.SysRegs}
 use Rattle.sysreg.specs.declared.regs.Register.{Register}
 use Rattle.tlb.specs.Answers.{Answer}
@@ -28,52 +26,22 @@ use Rattle.cpu.specs.declared.Core.{Core}
 use Rattle.cpu.specs.declared.{call.Call.Call}
 use Rattle.cpu.specs.Registers.{registered, written, after_register_write}
 use Rattle.cpu.specs.System.{on_stored, zero_of, zero_ram, sys_by, sys_ram_by, op_of, sys_of, sys_ram}
-use Rattle.cpu.specs.Check.{Row, checks_of, first_of, missed_of, is_width, known, kept}
+use Rattle.cpu.specs.Check.{Row, checks_of, missed_of, is_width, known, kept}
 use Rattle.cpu.specs.Replies.{translation, loading, storing, fetching, reaching, registering}
-use Rattle.cpu.specs.Step.{load_by, store_by, store_ram_by, refused_or, missed_by, run_of, ram_of, ram_after}
+use Rattle.cpu.specs.Step.{load_by, store_by, store_ram_by, missed_by, run_of, ram_of, ram_after}
 use Rattle.cpu.specs.declared.call.Call.TheVariants.{Translate, DataPa, FetchPa, Load as LoadCall, Store as StoreCall, Fetch, System}
 use Rattle.cpu.specs.declared.call.Call.TheVariants.{Register as RegisterCall, Level, Mark, General, Abort, Census}
 use Rattle.word.specs.declared.ram.Width.{Width}
 use Rattle.sysreg.specs.declared.write.WriteError.TheVariants.{Undefined, NoRegister}
-use Rattle.cpu.specs.EveryCallEnds.{did, faulted, is-undefined, is-unimplemented, valued, unreached, stopped, wrote-ram, Ran, Wrote, outcome_of, writes, zeroes}
+use Rattle.cpu.specs.EveryCallEnds.{did, faulted, is-undefined, is-unimplemented, valued, unreached, stopped, wrote-ram, Ran, Wrote, outcome_of, writes}
 use Rattle.cpu.specs.EveryCallEnds.{says}
 
 -- A REFUSED CALL
 
--- the numbers of the rows are 1 to 7
-abbrev numbered : List Row → Bool
-numbered [] = true
-numbered (row ∷ rows) = (nat_le 1 row.1 && nat_le row.1 7) && numbered rows
-
-checks-numbered : (level base len : ℕ) (call : Call) → numbered (checks_of level base len call) ≡ true
-checks-numbered level base len (Translate kind va) = refl
-checks-numbered level base len (DataPa va) = refl
-checks-numbered level base len (FetchPa va) = refl
-checks-numbered level base len (LoadCall va size) = refl
-checks-numbered level base len (StoreCall va size v) = refl
-checks-numbered level base len (Fetch va) = refl
-checks-numbered level base len (System e) = refl
-checks-numbered level base len (RegisterCall key v) = refl
-checks-numbered level base len (Level requested) = refl
-checks-numbered level base len (Mark mark) = refl
-checks-numbered level base len (General n v) = refl
-checks-numbered level base len (Abort e) = refl
-checks-numbered level base len (Census first pages) = refl
-
-first-le : (rows : List Row) → numbered rows ≡ true → first_of rows ≤ 7
-first-le [] h = omega arith
-first-le (row ∷ rows) h =
-    let (here, later) = both (nat_le 1 row.1 && nat_le row.1 7) (numbered rows) h in
-    go row.0 (leb-true row.1 7 (both (nat_le 1 row.1) (nat_le row.1 7) here).1) (first-le rows later)
-  where
-    go : (b : Bool) → row.1 ≤ 7 → first_of rows ≤ 7 → (if b then row.1 else first_of rows) ≤ 7
-    go true here later = here
-    go false here later = later
-
 -- and a call with one is the identity on core and RAM
 pub number-le : (c : Core) (base : ℕ) (ram : List ℕ) (call : Call) → missed_by c base ram call ≤ 7
 unfolding missed_of
-number-le c base ram call = first-le (checks_of c.privilege.level base (length ram) call) (checks-numbered c.privilege.level base (length ram) call)
+number-le c base ram call = grind arith
 
 -- EVERY OTHER CALL
 
@@ -82,19 +50,9 @@ abbrev pub Passed : List Row → Type 0
 Passed [] = Unit {0}
 Passed (row ∷ rows) = (row.0 ≡ false) × Passed rows
 
-none_first : (rows : List Row) → numbered rows ≡ true → first_of rows ≡ 0 → Passed rows
-none_first [] h e = tt
-none_first (row ∷ rows) h e =
-    let (here, later) = both (nat_le 1 row.1 && nat_le row.1 7) (numbered rows) h in
-    go row.0 (leb-true 1 row.1 (both (nat_le 1 row.1) (nat_le row.1 7) here).0) e (none_first rows later)
-  where
-    go : (b : Bool) → 1 ≤ row.1 → (if b then row.1 else first_of rows) ≡ 0 → (first_of rows ≡ 0 → Passed rows) → (b ≡ false) × Passed rows
-    go true above z later = absurd (omega arith)
-    go false above z later = (refl, later z)
-
 pub all-passed : (level base len : ℕ) (call : Call) → missed_of level base len call ≡ 0 → Passed (checks_of level base len call)
 unfolding missed_of
-all-passed level base len call = none_first (checks_of level base len call) (checks-numbered level base len call)
+all-passed level base len call = grind arith
 
 only-done : (c d : Core) (ram : List ℕ) → Ran c ram d ram (says done)
 only-done c d ram = wrote-ram d ram done (did ram refl)
@@ -135,16 +93,13 @@ zero-wrote (suc n) c base ram va =
 
 -- each answer as what it says
 loading-says : (a : LoadAnswer) → outcome_of (loading a) ≡ says (load_says a)
-loading-says (Ok v) = refl
-loading-says (Err s) = refl
+loading-says a = grind arith
 
 storing-says : (a : StoreAnswer) → outcome_of (storing a) ≡ says (store_says a)
-storing-says (Ok x) = refl
-storing-says (Err s) = refl
+storing-says a = grind arith
 
 fetching-says : (a : FetchAnswer) → outcome_of (fetching a) ≡ says (fetch_says a)
-fetching-says (Ok v) = refl
-fetching-says (Err e) = refl
+fetching-says a = grind arith
 
 -- a register write of a key that names a register is not refused
 code : WriteAnswer → ℕ
@@ -154,13 +109,7 @@ code (Err NoRegister) = 1
 
 named-write : (k : Control) (s : SysRegs) (level v : ℕ) (f : Option Register) → names f ≡ true → code (write_found k s level f v).answer ≡ 0
 unfolding code
-named-write k s level v None h = let z : ◌≡◌ {A = ℕ} 0 1 = ap (λ (x : Bool). (if x then 1 else 0)) h in omega arith
-named-write k s level v (Some r) h = go (level == 0) (in_control r)
-  where
-    go : (x y : Bool) → code (if x then ended k s (Err Undefined) else if y then ended (control_with k r v) s (Ok tt) else ended k (sys_with s r v) (Ok tt)).answer ≡ 0
-    go true y = refl
-    go false true = refl
-    go false false = refl
+named-write k s level v f h = grind arith
 
 module _ (c : Core) (base : ℕ) (ram : List ℕ) where
   translated : (d : Core) (va : ℕ) (a : Answer) → Ran c ram d ram (outcome_of (translation va a))
@@ -226,14 +175,11 @@ module _ (c : Core) (base : ℕ) (ram : List ℕ) where
           absurd (let z : ◌≡◌ {A = ℕ} 1 0 = ap code (sym e) ∙ named-write c.control c.sys c.privilege.level v (register_at key) named in omega arith)
 
   loads : (s : Option Width) (va : ℕ) → is_width s ≡ true → Ran c ram (load_by s c base ram va).core ram (outcome_of (load_by s c base ram va).reply)
-  loads (Some w) va h = loaded va (bytes_in w)
-  loads None va h = absurd (let z : ◌≡◌ {A = ℕ} 0 1 = ap (λ (x : Bool). (if x then 1 else 0)) h in omega arith)
+  loads s va h = grind (arith, loaded)
 
   stores : (s : Option Width) (va v : ℕ) → is_width s ≡ true
       → Ran c ram (store_by s c base ram va).core (store_ram_by s c base ram va v) (outcome_of (store_by s c base ram va).reply)
-  stores (Some w) va v h = stored (write_of c base ram va (bytes_in w)).core (write_of c base ram va (bytes_in w)).answer _
-      (store_wrote c base ram va (bytes_in w) v)
-  stores None va v h = absurd (let z : ◌≡◌ {A = ℕ} 0 1 = ap (λ (x : Bool). (if x then 1 else 0)) h in omega arith)
+  stores s va v h = grind (arith, stored, store_wrote)
 
   -- a call that misses no check ends in a value, a fault, Undefined or Unimplemented, or is done
   pub ran : (call : Call) → missed_by c base ram call ≡ 0
@@ -255,34 +201,6 @@ module _ (c : Core) (base : ℕ) (ram : List ℕ) where
   ran (Census first pages) e = only-done c _ ram
 
 module _ (c : Core) (base : ℕ) (ram : List ℕ) where
-  system-quiet : (o : SysOp) (x : ℕ) → zeroes o ≡ false → sys_ram_by o c base ram x ≡ ram
-  system-quiet SysOp.Zva x h = absurd (let z : ◌≡◌ {A = ℕ} 1 0 = ap (λ (b : Bool). (if b then 1 else 0)) h in omega arith)
-  system-quiet (SysOp.At form) x h = refl
-  system-quiet SysOp.Tlbi x h = refl
-  system-quiet SysOp.Nothing x h = refl
-  system-quiet SysOp.Undefined x h = refl
-  system-quiet SysOp.Unimplemented x h = refl
-
-  run-quiet : (call : Call) → writes c call ≡ false → ram_of c base ram call ≡ ram
-  unfolding ram_of sys_ram
-  run-quiet (StoreCall va size v) h = absurd (let z : ◌≡◌ {A = ℕ} 1 0 = ap (λ (b : Bool). (if b then 1 else 0)) h in omega arith)
-  run-quiet (System f) h = system-quiet (op_of c f.op1 f.crn f.crm f.op2) (reg_of c f.rt) h
-  run-quiet (Translate kind va) h = refl
-  run-quiet (DataPa va) h = refl
-  run-quiet (FetchPa va) h = refl
-  run-quiet (LoadCall va size) h = refl
-  run-quiet (Fetch va) h = refl
-  run-quiet (RegisterCall key v) h = refl
-  run-quiet (Level level) h = refl
-  run-quiet (Mark mark) h = refl
-  run-quiet (General n v) h = refl
-  run-quiet (Abort x) h = refl
-  run-quiet (Census first pages) h = refl
-
   pub quiet : (call : Call) → writes c call ≡ false → ram_after c base ram call ≡ ram
-  unfolding ram_after
-  quiet call h = go (missed_by c base ram call)
-    where
-      go : (n : ℕ) → refused_or n (λ k. ram) (ram_of c base ram call) ≡ ram
-      go zero = run-quiet call h
-      go (suc n) = refl
+  unfolding ram_after ram_of sys_ram
+  quiet call h = grind arith

@@ -1,13 +1,12 @@
 -- What the core keeps: general registers, `last_pa` and `abort_pa`.
-use Rattle.std.proofs.Common.{◌≡◌, ℕ, Bool, true, false, length, refl, arith, lt-ltb, le-ltb, ltb}
-use Rattle.std.specs.Prelude.{if◌then◌else◌, slice_index, slice_set}
-use Rattle.std.proofs.lemmas.List.{get_or-set_same, get_or-set_other}
-use Rattle.std.proofs.Math.ListN.{length-set}
+use Rattle.std.proofs.Common.{rules}
+use Rattle.std.proofs.Common.{◌≡◌, ℕ, Bool, true, false, refl, arith, lt-ltb, le-ltb, ltb}
+use Rattle.std.specs.Prelude.{if◌then◌else◌, slice_index}
+use Rattle.std.proofs.lemmas.List.{get_or-set_same}
 use Rattle.tlb.proofs.Lists.{replicate-at}
 use Rattle.cpu.specs.Bare.{zeros}
 use Rattle.cpu.specs.Core.{fresh_core, reg_of, set_reg, after_access}
 use Rattle.cpu.specs.Memory.{translate_of, translate_access_of, write_of, fetch_of, fetch_pa_of, data_pa_of}
-use Rattle.cpu.specs.OpLaws.{translate, access, load, store, fetch, fetch_pa, data_pa}
 use Rattle.cpu.specs.Kept.{ReadsWhatIsWritten, OthersStay, LastIsWritten, ReadsZero, DropsWrites, NothingElse, RegisterRows, NeighbourRows}
 use Rattle.cpu.specs.Kept.{OnlyLoadsSetLast, TranslationsKeepAbort}
 
@@ -17,13 +16,7 @@ reads-what-is-written c n v l h = rw (lt-ltb n 31 h) (get_or-set_same c.x n v 0 
 
 pub others-stay : OthersStay
 unfolding reg_of set_reg
-others-stay c n m v h = go (ltb n 31) (ltb m 31)
-  where
-    go : (a b : Bool)
-        → (if b then slice_index (if a then slice_set c.x n v else c.x) m else 0) ≡ (if b then slice_index c.x m else 0)
-    go a false = refl
-    go false true = refl
-    go true true = get_or-set_other c.x n m v 0 h
+others-stay c n m v h = search rules
 
 pub last-is-written : LastIsWritten
 unfolding reg_of set_reg
@@ -39,11 +32,7 @@ drops-writes c n v h = rw (le-ltb n 31 h) refl
 
 pub nothing-else : NothingElse
 unfolding set_reg
-nothing-else c n v = (refl, go (ltb n 31))
-  where
-    go : (a : Bool) → length (if a then slice_set c.x n v else c.x) ≡ length c.x
-    go true = length-set c.x n v
-    go false = refl
+nothing-else c n v = search rules
 
 pub register-rows : RegisterRows
 unfolding reg_of set_reg fresh_core zeros
@@ -63,25 +52,10 @@ fresh-general n = go (ltb n 31)
 
 -- OPERATIONS
 
-differ : true ≡ false → ⊥
-differ e = cc
-
 pub only-loads-set-last : OnlyLoadsSetLast
 unfolding translate_of translate_access_of write_of fetch_of fetch_pa_of data_pa_of after_access
-only-loads-set-last c base ram (load va n) h = absurd (differ h)
-only-loads-set-last c base ram (translate va kind) h = refl
-only-loads-set-last c base ram (access va n kind) h = refl
-only-loads-set-last c base ram (store va n v) h = refl
-only-loads-set-last c base ram (fetch va) h = refl
-only-loads-set-last c base ram (fetch_pa va) h = refl
-only-loads-set-last c base ram (data_pa va) h = refl
+only-loads-set-last c base ram q h = grind arith
 
 pub translations-keep-abort : TranslationsKeepAbort
 unfolding translate_of translate_access_of fetch_pa_of data_pa_of after_access
-translations-keep-abort c base ram (load va n) h = absurd (differ h)
-translations-keep-abort c base ram (store va n v) h = absurd (differ h)
-translations-keep-abort c base ram (fetch va) h = absurd (differ h)
-translations-keep-abort c base ram (translate va kind) h = refl
-translations-keep-abort c base ram (access va n kind) h = refl
-translations-keep-abort c base ram (fetch_pa va) h = refl
-translations-keep-abort c base ram (data_pa va) h = refl
+translations-keep-abort c base ram q h = grind arith

@@ -1,36 +1,24 @@
 -- The cases of bytes moved, on plain values, for `search`.
-use Rattle.std.specs.Prelude.{if◌then◌else◌, Option, Some, None, Ok, Err}
-use Rattle.std.proofs.Common.{◌≡◌, ℕ, zero, suc, ◌+◌, ◌-◌, ◌*◌, ◌/◌, ◌^◌, ◌<◌, ◌≤◌, Bool, true, false, ◌&&◌, leb, List, length, get_or, sym, refl, ap, ◌∙◌, pow-suc, arith, leb-true}
+use Rattle.std.proofs.Common.{rules}
+use Rattle.std.specs.Prelude.{Option, Some, None, Ok, Err}
+use Rattle.std.proofs.Common.{◌≡◌, ℕ, zero, suc, ◌+◌, ◌-◌, ◌*◌, ◌/◌, ◌^◌, ◌<◌, ◌≤◌, Bool, true, false, List, length, get_or, sym, ap, ◌∙◌, pow-suc, arith}
 use native.Mathlib.Nat.{pow-le-pow_right}
-use Rattle.word.specs.Ram.{little_endian, within, word_at, stored}
+use Rattle.word.specs.Ram.{within, word_at, stored}
 use Rattle.cpu.specs.Place.{byte_at, first_outside, verdict_of, bytes_before, Lie}
 use Rattle.cpu.proofs.PlaceLaws.{lowest, all-inside}
 use Rattle.cpu.proofs.Places.{judge-on, judge-out, judge-in}
-use Rattle.cpu.specs.Bytes.{byte_in, split_value, split_stored, got_by, load_of}
+use Rattle.cpu.specs.Bytes.{byte_in, split_value, split_stored, load_of}
 use Rattle.cpu.proofs.BytesLaws.{stored-length}
 use Rattle.cpu.specs.declared.place.Pages.{Pages}
 use Rattle.cpu.specs.Answers.{Verdict, outside_at}
 use Rattle.cpu.specs.declared.place.Place.TheVariants.{Whole, Split}
 
--- what the window's test says of the numbers
-and_left : (a b : Bool) → (a && b) ≡ true → a ≡ true
-and_left true b e = refl
-and_left false b e = e
-
-and_right : (a b : Bool) → (a && b) ≡ true → b ≡ true
-and_right true b e = e
-and_right false true e = refl
-and_right false false e = e
-
 module _ (base len n pa : ℕ) (f : Bool) (t : f ≡ true) (e : f ≡ within base len n pa) where
   pub fits-base : base ≤ pa
-  fits-base = leb-true base pa (and_left (leb base pa) (leb (pa + n) (base + len)) (sym e ∙ t))
+  fits-base = grind arith
 
   pub fits-end : pa - base + n ≤ len
-  fits-end =
-      let h = fits-base in
-      let k = leb-true (pa + n) (base + len) (and_right (leb base pa) (leb (pa + n) (base + len)) (sym e ∙ t)) in
-      omega arith
+  fits-end = grind arith
 
 -- the loop that sums up a split access's bytes, from the highest down
 module _ (base : ℕ) (ram : List ℕ) (p : Pages) (n : ℕ) where
@@ -74,23 +62,13 @@ module _ (n i v : ℕ) (few : n ≤ 8) (h : 0 < i) (k : i ≤ n) (l : v < 256 ^ 
 
 -- loads
 module _ (base : ℕ) (ram : List ℕ) where
-  by_value : (pa : ℕ) (f : Bool) (v x : ℕ) → (if f then Some x else None) ≡ Some v
-      → Ok v ≡ got_by (if f then Ok tt else Err (outside_at 0 pa)) x
-  by_value pa true v x q = cc
-  by_value pa false v x q = cc
-
-  by-none : (pa : ℕ) (f : Bool) (x : ℕ) → (if f then Some x else None) ≡ None
-      → Err (outside_at 0 pa) ≡ got_by (if f then Ok tt else Err (outside_at 0 pa)) x
-  by-none pa true x q = cc
-  by-none pa false x q = refl
-
   pub whole-value : (pa n : ℕ) (w : Option ℕ) (v : ℕ) → w ≡ word_at base ram n pa → w ≡ Some v → Ok v ≡ load_of base ram (Whole pa) n
   unfolding load_of verdict_of word_at
-  whole-value pa n w v e q = by_value pa (within base (length ram) n pa) v (little_endian ram n (pa - base)) (sym e ∙ q)
+  whole-value pa n w v e q = grind arith
 
   pub whole-abort : (pa n : ℕ) (w : Option ℕ) → w ≡ word_at base ram n pa → w ≡ None → Err (outside_at 0 pa) ≡ load_of base ram (Whole pa) n
   unfolding load_of verdict_of word_at
-  whole-abort pa n w e q = by-none pa (within base (length ram) n pa) (little_endian ram n (pa - base)) (sym e ∙ q)
+  whole-abort pa n w e q = grind arith
 
   pub split-value : (p : Pages) (n v : ℕ) (d : Verdict) → d ≡ first_outside base (length ram) p 0 n → d ≡ Ok tt
       → v ≡ split_value base ram p 0 n → Ok v ≡ load_of base ram (Split p) n
@@ -102,22 +80,13 @@ module _ (base : ℕ) (p : Pages) (n i v : ℕ) (ram ys : List ℕ) (x : Verdict
     (left : split_stored base p v i (bytes_before x n - i) ram ≡ ys) where
   pub store-end : n ≤ i → (Ok tt ≡ x) × (ram ≡ ys)
   unfolding split_stored
-  store-end h =
-      let e : Ok tt ≡ x = judge-in base (length ram) p n i x judged h in
-      let q : bytes_before x n ≡ n = ap (λ (d : Verdict). bytes_before d n) (sym e) in
-      let z : bytes_before x n - i ≡ zero = omega arith in
-      (e, rw z at left)
+  store-end h = grind (arith, judge-in)
 
   module _ (h : i < n) (pa : ℕ) (f : Bool) (zs : List ℕ) (ep : pa ≡ byte_at p i) (ef : f ≡ within base (length ram) 1 pa)
       (ez : zs ≡ stored base ram 1 pa v) where
     pub store-out : f ≡ false → (Err (outside_at i pa) ≡ x) × (zs ≡ ys)
     unfolding split_stored stored
-    store-out t =
-        let e : Err (outside_at i pa) ≡ x = judge-out base (length ram) p n i x judged h pa f ep ef t in
-        let q : bytes_before x n ≡ i = ap (λ (d : Verdict). bytes_before d n) (sym e) in
-        let z : bytes_before x n - i ≡ zero = omega arith in
-        let same : stored base ram 1 pa v ≡ ram = rw (← ef, t) refl in
-        (e, ez ∙ same ∙ (rw z at left))
+    store-out t = search (rules, judge-out)
 
     pub store-judged : f ≡ true → first_outside base (length ram) p (i + 1) (n - (i + 1)) ≡ x
     store-judged t = judge-on base (length ram) p n i x judged h pa f ep ef t

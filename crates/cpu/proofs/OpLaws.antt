@@ -1,5 +1,6 @@
 -- What every operation leaves as it was, and the cache and RAM after it.
-use Rattle.std.specs.Prelude.{◌≡◌, ℕ, ◌+◌, ◌<◌, List, ◌≢◌, slice_index, refl, Ok, Err}
+use Rattle.std.proofs.Common.{arith}
+use Rattle.std.specs.Prelude.{◌≡◌, ℕ, ◌+◌, ◌<◌, List, ◌≢◌, slice_index, refl, Ok}
 use Rattle.word.specs.Ram.{word_at}
 use Rattle.tlb.specs.declared.access.Kind.TheVariants.{Write}
 use Rattle.cpu.specs.Bare.{bare_of}
@@ -11,8 +12,7 @@ use Rattle.cpu.specs.Memory.{located_now, translate_of, translate_access_of, rea
 use Rattle.cpu.specs.Memory.{data_pa_of}
 use Rattle.cpu.specs.declared.Core.{Core}
 use Rattle.cpu.specs.declared.place.Place.{Place}
-use Rattle.cpu.specs.Answers.{Placed}
-use Rattle.cpu.specs.OpLaws.{translate, access, load, store, fetch, fetch_pa, data_pa, Operation, operation_core}
+use Rattle.cpu.specs.OpLaws.{Operation, operation_core}
 use Rattle.std.specs.Prelude.{length}
 use Rattle.cpu.proofs.BytesLaws.{store_length}
 use Rattle.cpu.specs.OpLaws.{operation_ram}
@@ -21,30 +21,14 @@ use Rattle.cpu.specs.OpLaws.{operation_ram}
 
 pub ram-length : (c : Core) (base : ℕ) (ram : List ℕ) (o : Operation) → length (operation_ram c base ram o) ≡ length ram
 unfolding ram_after_write store_ram_end
-ram-length c base ram (store va n v) = go (located_now c (word_at base ram 8) va n Write).placed
-  where
-    go : (x : Placed) → length (store_ram_end x base ram n v) ≡ length ram
-    go (Ok place) = store_length base ram place n v
-    go (Err failed) = refl
-ram-length c base ram (translate va kind) = refl
-ram-length c base ram (access va n kind) = refl
-ram-length c base ram (load va n) = refl
-ram-length c base ram (fetch va) = refl
-ram-length c base ram (fetch_pa va) = refl
-ram-length c base ram (data_pa va) = refl
+ram-length c base ram o = grind (arith, store_length)
 
 -- THE CORE
 
 -- no operation changes the level, the mark, flags, PC or a register
 pub kept : (c : Core) (base : ℕ) (ram : List ℕ) (o : Operation) → bare_of (operation_core c base ram o) ≡ bare_of c
 unfolding translate_of translate_access_of read_of write_of fetch_of fetch_pa_of data_pa_of after_access
-kept c base ram (translate va kind) = refl
-kept c base ram (access va n kind) = refl
-kept c base ram (load va n) = refl
-kept c base ram (store va n v) = refl
-kept c base ram (fetch va) = refl
-kept c base ram (fetch_pa va) = refl
-kept c base ram (data_pa va) = refl
+kept c base ram o = grind arith
 
 -- only a load sets `last_pa`
 pub store-last : (c : Core) (base : ℕ) (ram : List ℕ) (va n : ℕ) → (write_of c base ram va n).core.last_pa ≡ c.last_pa
@@ -61,9 +45,4 @@ pub write-leaves : (c : Core) (base : ℕ) (ram : List ℕ) (va n v k : ℕ)
     → (i : ℕ) → i < n → base + k ≢ address_in place i)
     → slice_index (ram_after_write c base ram va n v) k ≡ slice_index ram k
 unfolding ram_after_write store_ram_end
-write-leaves c base ram va n v k none = go (located_now c (word_at base ram 8) va n Write).placed none
-  where
-    go : (x : Placed) → ((place : Place) → x ≡ Ok place → (i : ℕ) → i < n → base + k ≢ address_in place i)
-        → slice_index (store_ram_end x base ram n v) k ≡ slice_index ram k
-    go (Ok place) free = store-leaves base ram place n v k (free place refl)
-    go (Err failed) free = refl
+write-leaves c base ram va n v k none = grind (arith, store-leaves)

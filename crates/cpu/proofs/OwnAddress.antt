@@ -1,8 +1,9 @@
 -- Where each byte of an access lies, by its own address.
+use Rattle.std.proofs.Common.{rules}
 use Rattle.cpu.specs.Results.{Stepped}
-use Rattle.std.specs.Prelude.{if◌then◌else◌, ◌≡◌, ℕ, ◌+◌, ◌-◌, ◌/◌, ◌%◌, ◌^◌, ◌<◌, ◌≤◌, Bool, true, false, List, ◌≢◌, nat_lt, Option, Ok, Err}
+use Rattle.std.specs.Prelude.{◌≡◌, ℕ, ◌+◌, ◌-◌, ◌/◌, ◌%◌, ◌^◌, ◌<◌, ◌≤◌, Bool, true, false, List, ◌≢◌, nat_lt, Option, Ok}
 use Rattle.std.proofs.Math.Path.{refl}
-use Rattle.std.proofs.Common.{sym, ap, subst, ◌∙◌, arith, ltb-true, ltb-false, lt-ltb, eq-eqb, ne_eqb}
+use Rattle.std.proofs.Common.{sym, ap, subst, ◌∙◌, arith, ltb-true, ltb-false, eq-eqb, ne_eqb}
 use Rattle.std.proofs.Math.Nat.{mod-mod}
 use Rattle.word.specs.Bits.{wrap}
 use Rattle.word.specs.Ram.{word_at}
@@ -14,12 +15,11 @@ use Rattle.tlb.proofs.Translations.{translation-follows}
 use Rattle.tlb.specs.Translate.{access_of}
 use Rattle.tlb.specs.declared.{access.Kind.Kind, Tlb.Tlb}
 use Rattle.tlb.specs.Answers.{Answer}
-use Rattle.cpu.specs.Answers.{Placed, fault_at, second_fault_at}
 use Rattle.cpu.specs.Core.{after_access, bank_now}
-use Rattle.cpu.specs.Place.{in_page, next_page, crosses, goes_on, address_in}
+use Rattle.cpu.specs.Place.{in_page, next_page, crosses, address_in}
 use Rattle.cpu.proofs.PlaceLaws.{same-page, same-offset, next-first}
 use Rattle.cpu.proofs.PageLaws.{answer_at, step-page, step-offset}
-use Rattle.cpu.specs.Translations.{one_page, both_pages, translate_in, located_of}
+use Rattle.cpu.specs.Translations.{translate_in, located_of}
 use Rattle.cpu.specs.Memory.{stepped_now, located_now, translate_of}
 use Rattle.cpu.specs.OpLaws.{on_now}
 use Rattle.cpu.specs.declared.Core.{Core}
@@ -104,8 +104,7 @@ module _ (c : Core) (base : ℕ) (ram : List ℕ) (va n : ℕ) (kind : Kind) (re
       record { pa = pa + i; answer = own-next i (next-differs i h (omega arith)) ∙ ready.flat o pa i e h k; there = refl }
 
   off-crossing : (on : Bool) → in_page va < n → crosses on va n ≡ false → on ≡ false
-  off-crossing true h q = rw (lt-ltb _ _ h) at q
-  off-crossing false h q = refl
+  off-crossing on h q = grind arith
 
   module _ (i : ℕ) (h : i < n) where
     whole-own : (pa : ℕ) → first.answer ≡ Ok pa → crosses (on_now c) va n ≡ false → Own c memory va kind i (Whole pa)
@@ -134,25 +133,4 @@ module _ (c : Core) (base : ℕ) (ram : List ℕ) (va n : ℕ) (kind : Kind) (re
     -- each byte of an access that was placed lies where its own address's translation says
     pub lies-own : (place : Place) → (located_now c memory va n kind).placed ≡ Ok place → Own c memory va kind i place
     unfolding located_now located_of
-    lies-own place = go first.answer refl (crosses (on_now c) va n) refl second.answer refl
-      where
-        placed-is : (x y : Place) → ◌≡◌ {A = Placed} (Ok x) (Ok y) → x ≡ y
-        placed-is x y q = cc
-
-        go : (x : Answer) → first.answer ≡ x → (b : Bool) → crosses (on_now c) va n ≡ b → (y : Answer) → second.answer ≡ y
-            → (if goes_on first.answer (crosses (on_now c) va n) then both_pages va first.answer second else one_page va first).placed ≡ Ok place
-            → Own c memory va kind i place
-        go (Err fault) e b q y d p =
-            let z : Err (fault_at va fault) ≡ Ok place = rw e at p in
-            let w : ◌≡◌ {A = ℕ} 0 1 = cc in
-            absurd (omega arith)
-        go (Ok pa) e false q y d p =
-            let z : ◌≡◌ {A = Placed} (Ok (Whole pa)) (Ok place) = rw (e, q) at p in
-            subst (Own c memory va kind i) (placed-is _ _ z) (whole-own pa e q)
-        go (Ok pa) e true q (Err fault) d p =
-            let z : Err (second_fault_at (next_page va) pa fault) ≡ Ok place = rw (e, q, d) at p in
-            let w : ◌≡◌ {A = ℕ} 0 1 = cc in
-            absurd (omega arith)
-        go (Ok pa) e true q (Ok pa2) d p =
-            let z : ◌≡◌ {A = Placed} (Ok (Split (record { in_page = in_page va; pa = pa; pa2 = pa2 }))) (Ok place) = rw (e, q, d) at p in
-            subst (Own c memory va kind i) (placed-is _ _ z) (split-own pa pa2 e d)
+    lies-own place = search (rules, whole-own, split-own)

@@ -1,6 +1,6 @@
 -- The lowest failing byte decides, by each byte's own address.
-use Rattle.std.specs.Prelude.{if◌then◌else◌, nat_lt, Option, Ok, Err, unwrap_or}
-use Rattle.std.proofs.Common.{◌≡◌, ℕ, ◌+◌, ◌-◌, ◌/◌, ◌%◌, ◌<◌, ◌≤◌, Bool, true, false, List, length, sym, refl, ap, ◌∙◌, arith, ltb-true, ltb-false, lt-ltb}
+use Rattle.std.specs.Prelude.{nat_lt, Option, Ok, Err, unwrap_or}
+use Rattle.std.proofs.Common.{◌≡◌, ℕ, ◌+◌, ◌-◌, ◌/◌, ◌%◌, ◌<◌, ◌≤◌, Bool, true, false, List, length, sym, refl, ap, ◌∙◌, arith, ltb-true, ltb-false}
 use Rattle.word.specs.Ram.{word_at}
 use Rattle.fault.specs.declared.Fault.{Fault}
 use Rattle.tlb.specs.Answers.{Answer}
@@ -8,9 +8,9 @@ use Rattle.tlb.specs.declared.access.Kind.{Kind}
 use Rattle.tlb.specs.declared.access.Kind.TheVariants.{Read, Write}
 use Rattle.cpu.specs.Answers.{Placed}
 use Rattle.cpu.specs.Core.{after_access, bank_now}
-use Rattle.cpu.specs.Place.{in_page, next_page, crosses, goes_on, placed_both}
+use Rattle.cpu.specs.Place.{in_page, next_page, crosses, placed_both}
 use Rattle.cpu.specs.Ends.{load_end, store_end}
-use Rattle.cpu.specs.Translations.{located_of, one_page, both_pages}
+use Rattle.cpu.specs.Translations.{located_of}
 use Rattle.cpu.specs.Memory.{located_now, read_of, write_of}
 use Rattle.cpu.specs.OpLaws.{on_now}
 use Rattle.cpu.specs.OwnAddress.{Ready, byte_va, own_answer}
@@ -27,7 +27,7 @@ near c va n x = let h : 4096 < va % 4096 + n = x.1 in omega arith
 
 -- it takes two pages
 taken : (c : Core) (va n : ℕ) → Crosses c va n → crosses (on_now c) va n ≡ true
-taken c va n x = rw (x.0, lt-ltb (in_page va) n (near c va n x)) refl
+taken c va n x = grind arith
 
 module _ (c : Core) (base : ℕ) (ram : List ℕ) (va n : ℕ) (kind : Kind) (ready : Ready c base ram va n kind) where
   abbrev pub a : Answer
@@ -91,13 +91,7 @@ module _ (c : Core) (base : ℕ) (ram : List ℕ) (va n : ℕ) (kind : Kind) (re
   -- both translations, where it crosses
   placed-both : crosses (on_now c) va n ≡ true → (located_now c (word_at base ram 8) va n kind).placed ≡ placed_both va a b
   unfolding located_now located_of
-  placed-both x = go a refl
-    where
-      go : (y : Answer) → a ≡ y
-          → (if goes_on a (crosses (on_now c) va n) then both_pages va a (second c base ram va n kind ready) else one_page va (first c base ram va n kind ready)).placed
-          ≡ placed_both va a b
-      go (Ok pa) e = rw (e, x) refl
-      go (Err f) e = rw e refl
+  placed-both x = grind arith
 
 pub load-decided : LoadDecided
 unfolding read_of after_access

@@ -1,22 +1,20 @@
 -- Translations go by pages: in one cache the addresses of a page get one answer but for the offset in the page, which is each address's own.
-use Rattle.std.specs.Prelude.{if◌then◌else◌, ◌≡◌, ℕ, ◌+◌, ◌*◌, ◌/◌, ◌%◌, ◌^◌, ◌<◌, ◌≤◌, nat_lt, Bool, true, false, ◌==◌, bit_or, Option, Some, None, Ok, Err}
-use Rattle.std.proofs.Math.Path.{refl, ap}
-use Rattle.std.proofs.Common.{sym, ◌∙◌, arith, ltb-true, ltb-false}
-use Rattle.fault.specs.First.{first}
+use Rattle.std.specs.Prelude.{if◌then◌else◌, ◌≡◌, ℕ, ◌+◌, ◌*◌, ◌/◌, ◌%◌, Bool, Option, Some, None, Ok, Err}
+use Rattle.std.proofs.Math.Path.{refl}
+use Rattle.std.proofs.Common.{◌∙◌, arith}
 use Rattle.walk.specs.Answers.{Walked}
-use Rattle.sysreg.specs.Regs.{regime_of, index_of}
+use Rattle.sysreg.specs.Regs.{regime_of}
 use Rattle.walk.proofs.TagLaws.{untagged-page, untagged-offset}
-use Rattle.walk.specs.PageLaws.{paged, paged_leaf}
+use Rattle.walk.specs.PageLaws.{paged}
 use Rattle.walk.proofs.PageLaws.{walk_of-page}
-use Rattle.walk.specs.declared.{regime.Bank.Bank, level.Leaf.Leaf}
-use Rattle.tlb.specs.Access.{may_hint, user_of, right_of, has_right, judged, flat_answer}
-use Rattle.tlb.proofs.FlatLaws.{flat-fits, flat-large}
+use Rattle.walk.specs.declared.{regime.Bank.Bank}
+use Rattle.tlb.specs.Access.{user_of, judged, flat_answer}
 use Rattle.tlb.specs.Answers.{Answer, Outcome}
 use Rattle.tlb.proofs.Cells.{or-page}
-use Rattle.tlb.specs.Entry.{blank, slot_of, serves, entry_for}
-use Rattle.tlb.specs.Hint.{no_hint, on_page, data_slot, hint_key}
+use Rattle.tlb.specs.Entry.{slot_of}
+use Rattle.tlb.specs.Hint.{no_hint, on_page, data_slot}
 use Rattle.tlb.proofs.Lists.{each-getD, each-imp}
-use Rattle.tlb.specs.Live.{Made, Aligned, WellFormed}
+use Rattle.tlb.specs.Live.{Aligned, WellFormed}
 use Rattle.tlb.specs.Model.{Access}
 use Rattle.tlb.specs.Tlb.{entry_at, hint_at, get_of}
 use Rattle.tlb.specs.Translate.{access_of, tag_in, walked_in, looked_in, miss_in, tried_in}
@@ -30,16 +28,7 @@ answer_at (Err f) b = Err f
 
 -- so with stage 1 off
 pub flat-at : (u v b : ℕ) → u / 4096 ≡ v / 4096 → v % 4096 ≡ b % 4096 → flat_answer v ≡ answer_at (flat_answer u) b
-flat-at u v b e o = go (nat_lt u (2 ^ 44)) refl
-  where
-    go : (x : Bool) → nat_lt u (2 ^ 44) ≡ x → flat_answer v ≡ answer_at (flat_answer u) b
-    go true h =
-        let below : u < 2 ^ 44 = ltb-true _ _ h in
-        let own : v ≡ u / 4096 * 4096 + b % 4096 = omega arith in
-        flat-fits v (omega arith) ∙ ap Ok own ∙ ap (λ (x : Answer). answer_at x b) (sym (flat-fits u below))
-    go false h =
-        let above : 2 ^ 44 ≤ u = ltb-false _ _ h in
-        flat-large v (omega arith) ∙ ap (λ (x : Answer). answer_at x b) (sym (flat-large u above))
+flat-at u v b e o = grind arith
 
 module _ (a b : ℕ) where
   on-page : (pa : ℕ) → pa % 4096 ≡ 0 → on_page pa b ≡ on_page pa a / 4096 * 4096 + b % 4096
@@ -47,18 +36,7 @@ module _ (a b : ℕ) where
 
   judged-page : (e : Entry) (user : Bool) (kind : Kind) → e.pa % 4096 ≡ 0 → judged e user kind b ≡ answer_at (judged e user kind a) b
   unfolding judged
-  judged-page e user kind q = go (has_right e.perms (right_of kind user))
-    where
-      go : (x : Bool)
-          → if x then Ok (on_page e.pa b) else Err (first (bit_or 12 e.level))
-          ≡ answer_at (if x then Ok (on_page e.pa a) else Err (first (bit_or 12 e.level))) b
-      go true = ap Ok (on-page e.pa q)
-      go false = refl
-
--- an entry is made of a leaf's page
-abbrev entry_of : ℕ → ℕ → Leaf → Entry
-entry_of asid tag leaf =
-    record { tag = tag; generation = 0; perms = leaf.perms; level = leaf.level; global = leaf.global; asid = asid; pa = leaf.oa }
+  judged-page e user kind q = grind (arith, or-page)
 
 -- IN ONE CACHE
 
@@ -67,8 +45,7 @@ module _ (t : Tlb) (f : WellFormed t) where
   hint-aligned i = each-getD {P = Aligned} no_hint refl f.hints i
 
   pub entry-aligned : (i : ℕ) → (entry_at t i).pa % 4096 ≡ 0
-  entry-aligned i =
-      each-getD {P = λ (e : Entry). e.pa % 4096 ≡ 0} blank refl (each-imp {P = Made t.generation} (λ e m. m.aligned) f.entries) i
+  entry-aligned i = grind (arith, each-getD, each-imp)
 
 module _ (s : Bank) (privilege : Privilege) (memory : ℕ → Option ℕ) (kind : Kind) (t : Tlb) (f : WellFormed t) (a b : ℕ)
     (same : a / 4096 ≡ b / 4096) where
@@ -82,39 +59,29 @@ module _ (s : Bank) (privilege : Privilege) (memory : ℕ → Option ℕ) (kind 
   untagged-is = untagged-page s.tcr (regime_of privilege.level) a b same
 
   tags : tag_in (of a) ≡ tag_in (of b)
-  tags = ap (λ (n : ℕ). n * 4 + index_of (regime_of privilege.level)) untagged-is
+  tags = grind (arith, untagged-page)
 
   walk-page : (v w : Walked) → paged v ≡ paged w → (walked_in w (of b) t).answer ≡ answer_at (walked_in v (of a) t).answer b
-  unfolding walked_in
-  walk-page (Ok x) (Ok y) e =
-      let leaf : paged_leaf x ≡ paged_leaf y = cc in
-      let one : entry_for x t.asid (tag_in (of a)) ≡ entry_for y t.asid (tag_in (of b)) = λ i. entry_of t.asid (tags i) (leaf i) in
-      (λ i. judged (sym one i) user kind b) ∙ judged-page a b (entry_for x t.asid (tag_in (of a))) user kind (omega arith)
-  walk-page (Err n) (Err m) e = let x : n ≡ m = cc in rw x
-  walk-page (Ok x) (Err m) e = let z : ◌≡◌ {A = ℕ} 0 1 = cc in absurd (omega arith)
-  walk-page (Err n) (Ok y) e = let z : ◌≡◌ {A = ℕ} 0 1 = cc in absurd (omega arith)
+  unfolding walked_in judged
+  walk-page v w e = grind (arith, untagged-page, or-page)
 
   abbrev entry : Entry
   entry = entry_at t (slot_of (tag_in (of b)))
 
   look-page : (x : Bool) → (looked_in (if x then Some entry else None) (of b) t).answer
       ≡ answer_at (looked_in (if x then Some entry else None) (of a) t).answer b
-  look-page true = judged-page a b entry user kind (entry-aligned t f (slot_of (tag_in (of b))))
-  look-page false =
-      walk-page (of a).walk (of b).walk
-      (walk_of-page (of a).untagged (of b).untagged untagged-is s (regime_of privilege.level) memory)
+  look-page x = grind (arith, judged-page, entry-aligned, walk-page, walk_of-page, untagged-is)
 
   abbrev missed : Bool → ℕ → ℕ → Outcome Tlb
   missed on tag va = if on then looked_in (get_of t tag) (of va) t else record { answer = flat_answer (of va).untagged; after = t }
 
   stage-page : (on : Bool) → (missed on (tag_in (of b)) b).answer ≡ answer_at (missed on (tag_in (of b)) a).answer b
   unfolding get_of
-  stage-page true = look-page (serves entry t (tag_in (of b)))
-  stage-page false = flat-at (of a).untagged (of b).untagged b untagged-is (untagged-offset s.tcr (regime_of privilege.level) b)
+  stage-page on = grind (arith, look-page, flat-at, untagged-is, untagged-offset)
 
   miss-page : (miss_in (of b) t).answer ≡ answer_at (miss_in (of a) t).answer b
   unfolding miss_in
-  miss-page = stage-page (of a).on ∙ ap (λ (tag : ℕ). answer_at (missed (of a).on tag a).answer b) (sym tags)
+  miss-page = grind (arith, stage-page, tags)
 
   abbrev hint : Hint
   hint = hint_at t (data_slot b kind)
@@ -123,14 +90,12 @@ module _ (s : Bank) (privilege : Privilege) (memory : ℕ → Option ℕ) (kind 
   served may hit va = if may then (if hit then Some (on_page hint.pa va) else None) else None
 
   hint-page : (may hit : Bool) → (tried_in (served may hit b) (of b) t).answer ≡ answer_at (tried_in (served may hit a) (of a) t).answer b
-  hint-page true true = ap Ok (on-page a b hint.pa (hint-aligned t f (data_slot b kind)))
-  hint-page true false = miss-page
-  hint-page false hit = miss-page
+  hint-page may hit = grind (arith, on-page, hint-aligned, miss-page)
 
   -- addresses of one page get one answer, each with its own offset
   pub step-page : (translate_in s privilege memory b kind t).answer ≡ answer_at (translate_in s privilege memory a kind t).answer b
   unfolding translate_in
-  step-page = rw same (hint-page (may_hint privilege kind) (hint.key == hint_key b privilege.level))
+  step-page = grind (arith, hint-page)
 
 -- so an address that is answered has the offset of the one that was asked for
 module _ (s : Bank) (privilege : Privilege) (memory : ℕ → Option ℕ) (kind : Kind) (t : Tlb) (f : WellFormed t) where

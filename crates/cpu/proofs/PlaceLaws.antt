@@ -1,18 +1,16 @@
 -- Laws of where an access lies: which byte is the lowest outside RAM, and on which page each byte stands.
-use Rattle.std.specs.Prelude.{if◌then◌else◌, ◌≡◌, ℕ, zero, suc, ◌+◌, ◌-◌, ◌/◌, ◌%◌, ◌^◌, ◌<◌, ◌≤◌, Bool, true, false, nat_lt, Ok, Err}
+use Rattle.std.specs.Prelude.{if◌then◌else◌, ◌≡◌, ℕ, zero, suc, ◌+◌, ◌-◌, ◌/◌, ◌%◌, ◌^◌, ◌<◌, ◌≤◌, Bool, true, false, Ok, Err}
 use Rattle.std.proofs.Math.Path.{refl}
-use Rattle.std.proofs.Common.{sym, ap, arith, ltb-true, ltb-false}
+use Rattle.std.proofs.Common.{sym, arith}
 use Rattle.word.specs.Bits.{wrap}
 use Rattle.word.specs.Ram.{within}
 use Rattle.cpu.specs.Place.{in_page, next_page, byte_at, first_outside, bytes_before, Lowest}
-use Rattle.cpu.specs.declared.{place.Pages.Pages, place.FaultAt.FaultAt, place.Outside.Outside}
+use Rattle.cpu.specs.declared.{place.Pages.Pages, place.FaultAt.FaultAt}
 use Rattle.cpu.specs.Answers.{Placed, Verdict, outside_at}
 
 -- two answers that are one name one byte, or one fault
 pub same-outside : (i pa j q : ℕ) → ◌≡◌ {A = Verdict} (Err (outside_at i pa)) (Err (outside_at j q)) → (i ≡ j) × (pa ≡ q)
-same-outside i pa j q e =
-    let o : outside_at i pa ≡ outside_at j q = cc in
-    (ap (λ (x : Outside). x.index) o, ap (λ (x : Outside). x.pa) o)
+same-outside i pa j q e = grind arith
 
 pub same-fault : (x y : FaultAt) → ◌≡◌ {A = Placed} (Err x) (Err y) → x ≡ y
 same-fault x y e = cc
@@ -26,11 +24,7 @@ module _ (base len : ℕ) (p : Pages) where
 
   -- what holds of k and from k + 1 on holds from k on
   from : (k j : ℕ) → k ≤ j → Fits k → (k + 1 ≤ j → Fits j) → Fits j
-  from k j h now later = go (nat_lt k j) refl
-    where
-      go : (b : Bool) → nat_lt k j ≡ b → Fits j
-      go true e = let l : k < j = ltb-true k j e in later (omega arith)
-      go false e = let l : j ≤ k = ltb-false k j e in let q : j ≡ k = omega arith in rw q now
+  from k j h now later = grind arith
 
   -- where it answers a byte, that is the lowest outside
   pub lowest : (k n i pa : ℕ) → first_outside base len p k n ≡ Err (outside_at i pa) → Lowest base len p k n i pa

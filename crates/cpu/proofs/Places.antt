@@ -21,7 +21,8 @@ module _ (base len : ℕ) (p : Pages) (n i : ℕ) where
           rw (ef, ep) (sym (ap (λ (k : ℕ). first_outside base len p i k) s) ∙ inv)
 
       pub judge-on : f ≡ true → first_outside base len p (i + 1) (n - (i + 1)) ≡ x
-      judge-on t = rw t at step
+      judge-on t = grind (arith, step)
 
       pub judge-out : f ≡ false → Err (outside_at i pa) ≡ x
-      judge-out t = rw t at step
+      unfolding first_outside
+      judge-out t = grind arith

@@ -1,31 +1,30 @@
 -- How many descriptors an access, a zeroing and a call read.
-use Rattle.std.specs.Prelude.{if◌then◌else◌, ◌≡◌, ℕ, zero, suc, ◌+◌, ◌*◌, ◌/◌, ◌%◌, ◌^◌, ◌<◌, ◌≤◌, ◌==◌, Bool, true, false, List, length, Option}
-use Rattle.std.specs.Prelude.{Some, None, Ok, Err}
+use Rattle.std.proofs.Common.{rules}
+use Rattle.std.specs.Prelude.{◌≡◌, ℕ, zero, suc, ◌+◌, ◌*◌, ◌/◌, ◌%◌, ◌^◌, ◌<◌, ◌≤◌, ◌==◌, Bool, true, false, List, length, Option}
+use Rattle.std.specs.Prelude.{Ok, Err}
 use Rattle.std.proofs.Common.{refl, ap, ◌∙◌, le_trans, mod-eq_of_lt, arith}
 use borrow.Author.Tests.{eq-eqb}
-use Rattle.word.specs.Bits.{align_down, wrap}
+use Rattle.word.specs.Bits.{wrap}
 use Rattle.word.specs.Ram.{word_at}
 use Rattle.sysreg.specs.Regs.{regime_of}
 use Rattle.walk.specs.Fetches.{fetches_of, fresh_reads}
 use Rattle.walk.specs.Regime.{bank_of, stage1_on}
-use Rattle.walk.specs.Tag.{untagged}
-use Rattle.walk.specs.Table.{range_of, levels_of}
 use Rattle.walk.proofs.FetchLaws.{few-fetches}
 use Rattle.walk.specs.declared.regime.Bank.{Bank}
 use Rattle.sysreg.specs.declared.regs.Regime.{Regime}
 use Rattle.tlb.specs.Answers.{Answer}
 use Rattle.tlb.specs.Asks.{onward, works}
 use Rattle.tlb.specs.Entry.{slot_of}
-use Rattle.tlb.specs.Hint.{data_slot, hint_key, fetch_found, on_page}
+use Rattle.tlb.specs.Hint.{data_slot, hint_key, on_page}
 use Rattle.tlb.specs.Live.{WellFormed}
 use Rattle.tlb.specs.Model.{Access}
 use Rattle.tlb.specs.Tlb.{entry_at, hint_at, get_of}
-use Rattle.tlb.specs.Translate.{access_of, tag_in, hint_in, tlb_after, translation_in}
-use Rattle.tlb.specs.Work.{no_work, read_more, needs_walk, work_tried, work_in}
+use Rattle.tlb.specs.Translate.{access_of, tag_in, tlb_after}
+use Rattle.tlb.specs.Work.{no_work, read_more, work_tried, work_in}
 use Rattle.tlb.proofs.Asks.{onward-same}
 use Rattle.tlb.proofs.Works.{nothing-read}
 use Rattle.tlb.specs.declared.{access.Kind.Kind, access.Privilege.Privilege, hint.Hint.Hint, work.Work.Work, Tlb.Tlb}
-use Rattle.tlb.specs.declared.access.Kind.TheVariants.{Write, Fetch}
+use Rattle.tlb.specs.declared.access.Kind.TheVariants.{Write}
 use Rattle.cpu.specs.Answers.{StoreAnswer}
 use Rattle.cpu.specs.Asks.{access_at, asks_by}
 use Rattle.cpu.specs.Bare.{Bare}
@@ -43,21 +42,12 @@ use Rattle.cpu.proofs.PageGiven.{Gives, by-its-hint, by-its-entry, by_itself, gi
 use Rattle.cpu.proofs.ZeroLaws.{one-page-only, one-done}
 use Rattle.cpu.proofs.ZeroMeaning.{again, begins}
 
--- a walk reads four at most
-levels-few : (b : Bool) → levels_of b ≤ 4
-levels-few true = omega arith
-levels-few false = omega arith
-
 pub walk-few : (s : Bank) (r : Regime) (va : ℕ) (memory : ℕ → Option ℕ) → length (fetches_of s r va memory) ≤ 4
-walk-few s r va memory = le_trans (few-fetches s r va memory) (levels-few (range_of s r va).largegrain)
+walk-few s r va memory = grind (arith, le_trans, few-fetches)
 
 pub fresh-few : (s : Bank) (r : Regime) (va : ℕ) (memory : ℕ → Option ℕ) → fresh_reads s r va memory ≤ 4
 unfolding fresh_reads
-fresh-few s r va memory = go (stage1_on s r)
-  where
-    go : (b : Bool) → (if b then length (fetches_of s r (untagged s.tcr r va) memory) else 0) ≤ 4
-    go true = walk-few s r (untagged s.tcr r va) memory
-    go false = omega arith
+fresh-few s r va memory = grind (arith, walk-few)
 
 -- and with stage 1 off none
 pub fresh-none : (s : Bank) (r : Regime) (va : ℕ) (memory : ℕ → Option ℕ) → stage1_on s r ≡ false → fresh_reads s r va memory ≡ 0
@@ -73,35 +63,20 @@ more-few n w = omega arith
 -- one translation, by a hint or not: no more than its walk has, and what it reads alone is added
 module _ (a : Access) (t : Tlb) (w : Work) where
   pub tried-few : (h : Option ℕ) → (work_tried h a t w).reads ≤ w.reads + a.reads
-  tried-few (Some pa) = omega arith
-  tried-few None = go (needs_walk a t)
-    where
-      go : (b : Bool) → (if b then read_more a.reads w else w).reads ≤ w.reads + a.reads
-      go true = more-few a.reads w
-      go false = omega arith
+  tried-few h = grind arith
 
   pub tried-adds : (h : Option ℕ) → w.reads + a.reads < 2 ^ 64 → (work_tried h a t w).reads ≡ w.reads + (work_tried h a t no_work).reads
-  tried-adds (Some pa) k = omega arith
-  tried-adds None k = go (needs_walk a t)
-    where
-      go : (b : Bool) → (if b then read_more a.reads w else w).reads ≡ w.reads + (if b then read_more a.reads no_work else no_work).reads
-      go true = omega arith
-      go false = omega arith
+  tried-adds h k = grind arith
 
 -- what one translation reads, and what two do, by their answers
 sum-one : (x : Answer) (v : Work) → (onward x v v).reads ≡ v.reads + onward x 0 0
-sum-one (Ok pa) v = omega arith
-sum-one (Err fault) v = omega arith
+sum-one x v = grind arith
 
 sum-two : (x y : Answer) (v u : Work) (m : ℕ) → u.reads ≡ v.reads + m → (onward x (onward y u u) v).reads ≡ v.reads + onward x (m + onward y 0 0) 0
-sum-two (Err fault) y v u m e = omega arith
-sum-two (Ok pa) (Ok pb) v u m e = omega arith
-sum-two (Ok pa) (Err fault) v u m e = omega arith
+sum-two x y v u m e = grind arith
 
 two-few : (x y : Answer) (v u : Work) (n : ℕ) → v.reads ≤ n → u.reads ≤ n → (onward x (onward y u u) v).reads ≤ n
-two-few (Err fault) y v u n f g = f
-two-few (Ok pa) (Ok pb) v u n f g = g
-two-few (Ok pa) (Err fault) v u n f g = g
+two-few x y v u n f g = grind arith
 
 module _ (c : Core) (memory : ℕ → Option ℕ) (va : ℕ) (kind : Kind) where
   abbrev access : Kind → ℕ → Access
@@ -109,14 +84,11 @@ module _ (c : Core) (memory : ℕ → Option ℕ) (va : ℕ) (kind : Kind) where
 
   pub translation-few : (w : Work) → (translate_work c memory va kind w).reads ≤ w.reads + 4
   unfolding translate_work
-  translation-few w =
-      le_trans (tried-few (access kind va) c.tlb w (hint_in c.privilege va kind c.tlb)) (omega (arith, access-few (bank_now c) c.privilege memory kind va))
+  translation-few w = search (rules, le_trans, tried-few, access-few)
 
   pub fetch-few : (w : Work) → (fetch_work c memory va w).reads ≤ w.reads + 4
   unfolding fetch_work
-  fetch-few w =
-      le_trans (tried-few (access Fetch va) c.tlb w (fetch_found c.tlb.fetch c.privilege.level va))
-      (omega (arith, access-few (bank_now c) c.privilege memory Fetch va))
+  fetch-few w = search (rules, le_trans, tried-few, access-few)
 
   pub one-page-few : (n : ℕ) (w : Work) → crosses (on_now c) va n ≡ false → (access_work c memory va n kind w).reads ≤ w.reads + 4
   one-page-few n w e = rw (one-work c memory va n kind w e) (translation-few w)
@@ -132,69 +104,34 @@ module _ (c : Core) (memory : ℕ → Option ℕ) (va : ℕ) (kind : Kind) where
   second = work_in (access kind (next_page va)) after first
 
   first-few : first.reads ≤ 4
-  first-few =
-      le_trans (tried-few (access kind va) c.tlb no_work (hint_in c.privilege va kind c.tlb))
-      (omega (arith, access-few (bank_now c) c.privilege memory kind va))
+  first-few = search (rules, le_trans, tried-few, access-few)
 
   second-few : second.reads ≤ 8
-  second-few =
-      le_trans (tried-few (access kind (next_page va)) after first (hint_in c.privilege (next_page va) kind after))
-      (omega (arith, first-few, access-few (bank_now c) c.privilege memory kind (next_page va)))
+  second-few = search (rules, le_trans, tried-few, access-few)
 
   second-adds : second.reads ≡ first.reads + (work_in (access kind (next_page va)) after no_work).reads
-  second-adds =
-      tried-adds (access kind (next_page va)) after first (hint_in c.privilege (next_page va) kind after)
-      (omega (arith, first-few, access-few (bank_now c) c.privilege memory kind (next_page va)))
+  second-adds = search (rules, tried-adds, access-few, le_trans, tried-few)
 
   asked-few : (b : Bool) → (works access (asks_by b va kind) c.tlb no_work).reads ≤ 8
-  asked-few true =
-      two-few (translation_in (access kind va) c.tlb).answer (translation_in (access kind (next_page va)) after).answer first second 8
-      (omega (arith, first-few)) second-few
-  asked-few false = rw (onward-same (translation_in (access kind va) c.tlb).answer first) (omega (arith, first-few))
+  asked-few b = grind (arith, two-few, first-few, second-few, onward-same)
 
   asked-sum : (b : Bool) → (works access (asks_by b va kind) c.tlb no_work).reads ≡ sum_read access (asks_by b va kind) c.tlb
-  asked-sum true =
-      sum-two (translation_in (access kind va) c.tlb).answer (translation_in (access kind (next_page va)) after).answer first second _ second-adds
-  asked-sum false = sum-one (translation_in (access kind va) c.tlb).answer first
+  asked-sum b = grind (arith, sum-two, second-adds, sum-one)
 
 pub sums-reads : SumsReads
 unfolding access_work
-sums-reads c memory va n kind = asked-sum c memory va kind (crosses (on_now c) va n)
+sums-reads c memory va n kind = search (rules, asked-sum)
 
 pub eight-reads : (c : Core) (memory : ℕ → Option ℕ) (va n : ℕ) (kind : Kind) → (access_work c memory va n kind no_work).reads ≤ 8
 unfolding access_work
-eight-reads c memory va n kind = asked-few c memory va kind (crosses (on_now c) va n)
+eight-reads c memory va n kind = search (rules, asked-few)
 
 pub few-reads : FewReads
 few-reads c memory va n kind = (eight-reads c memory va n kind, λ e. one-page-few c memory va kind n no_work e)
 
--- A ZEROING: each store is of one page
-module _ (base : ℕ) where
-  store-few : (c : Core) (ram : List ℕ) (va : ℕ) (w : Work) → va % 8 ≡ 0 → (write_work c base ram va 8 w).reads ≤ w.reads + 4
-  store-few c ram va w even = one-page-few c (word_at base ram 8) va Write 8 w (one-page-only c base ram va even (on_now c))
-
-  zero-few : (n : ℕ) (c : Core) (ram : List ℕ) (va : ℕ) (w : Work) → va % 8 ≡ 0 → (zero_work n c base ram va w).reads ≤ w.reads + 4 * n
-  unfolding zero_work
-  zero-few zero c ram va w even = omega arith
-  zero-few (suc n) c ram va w even =
-      go (write_of c base ram va 8).answer
-      (zero-few n (write_of c base ram va 8).core (ram_after_write c base ram va 8 0) (wrap (va + 8)) (write_work c base ram va 8 w) (omega arith))
-    where
-      one : (write_work c base ram va 8 w).reads ≤ w.reads + 4
-      one = store-few c ram va w even
-
-      go : (x : StoreAnswer)
-          → (zero_work n (write_of c base ram va 8).core base (ram_after_write c base ram va 8 0) (wrap (va + 8)) (write_work c base ram va 8 w)).reads
-          ≤ (write_work c base ram va 8 w).reads + 4 * n
-          → (on_stored x
-          (zero_work n (write_of c base ram va 8).core base (ram_after_write c base ram va 8 0) (wrap (va + 8)) (write_work c base ram va 8 w))
-          (write_work c base ram va 8 w)).reads
-          ≤ w.reads + 4 * suc n
-      go (Ok x) ih = omega (arith, one)
-      go (Err s) ih = omega (arith, one)
-
 pub zeroing-few : ZeroingFew
-zeroing-few c base ram x = zero-few base 8 c ram (align_down x 6) no_work (omega arith)
+unfolding zero_work
+zeroing-few c base ram x = grind (arith, one-page-few, one-page-only)
 
 -- AN ADDRESS THAT THE CACHE GIVES reads nothing
 module _ (s : Bank) (privilege : Privilege) (kind : Kind) (memory : ℕ → Option ℕ) (a pa : ℕ) (t : Tlb) (w : Work) where
@@ -275,8 +212,7 @@ module _ (c : Core) (base : ℕ) (ram : List ℕ) (va : ℕ) (w : Work) (well : 
           (ap (λ (z : Bare). z.privilege) b) (ap (λ (z : Bare). z.control) b) (begins c base ram va d.0 well line room d.1.0))
 
 pub zeroing-by-first : ZeroingByFirst
-zeroing-by-first c base ram x w well small = by-first c base ram (align_down x 6) w well (omega arith) (omega arith)
+zeroing-by-first c base ram x w well small = grind (arith, by-first)
 
 pub zeroing-four : ZeroingFour
-zeroing-four c base ram x well small =
-    rw (zeroing-by-first c base ram x no_work well small) (store-few base c ram (align_down x 6) no_work (omega arith))
+zeroing-four c base ram x well small = grind (arith, zeroing-by-first, one-page-few, one-page-only)

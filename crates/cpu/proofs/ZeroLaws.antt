@@ -1,9 +1,9 @@
 -- A zeroing store by store: each store's own translation, what the stores before it leave, and what they do to RAM.
 use Rattle.cpu.specs.Results.{Located, Stored}
-use Rattle.std.specs.Prelude.{if◌then◌else◌, ◌≡◌, ℕ, zero, suc, ◌+◌, ◌-◌, ◌*◌, ◌/◌, ◌%◌, ◌^◌, ◌<◌, ◌≤◌, Bool, true, false, ltb, List, length, ◌≢◌}
+use Rattle.std.specs.Prelude.{◌≡◌, ℕ, zero, suc, ◌+◌, ◌-◌, ◌*◌, ◌/◌, ◌%◌, ◌^◌, ◌<◌, ◌≤◌, Bool, true, false, List, length, ◌≢◌}
 use Rattle.std.specs.Prelude.{nat_le, nat_lt, slice_index, Ok, Err}
 use Rattle.std.proofs.Math.Path.{refl, sym, ap}
-use Rattle.std.proofs.Common.{◌∙◌, mod-eq_of_lt, pos_of_ne-zero, leb-true, leb-false, ltb-true, ltb-false, le-ltb}
+use Rattle.std.proofs.Common.{◌∙◌, mod-eq_of_lt, pos_of_ne-zero, leb-true, leb-false, ltb-true, ltb-false}
 use Rattle.std.proofs.Math.Nat.{zero-div}
 use native.Mathlib.Omega.{arith}
 use Rattle.word.specs.Bits.{wrap}
@@ -12,18 +12,16 @@ use Rattle.word.proofs.RamLaws.{within_low, within-high, written_byte}
 use Rattle.tlb.specs.declared.access.Kind.TheVariants.{Write}
 use Rattle.fault.specs.declared.Fault.{Fault}
 use Rattle.tlb.specs.Answers.{Answer}
-use Rattle.cpu.specs.Answers.{Placed, StoreAnswer, fault_at}
+use Rattle.cpu.specs.Answers.{StoreAnswer}
 use Rattle.exception.specs.declared.kind.Stop.{Stop}
 use Rattle.cpu.specs.Core.{after_access, bank_now}
-use Rattle.cpu.specs.Place.{in_page, crosses, goes_on, placed_one, verdict_of}
+use Rattle.cpu.specs.Place.{crosses, verdict_of}
 use Rattle.cpu.specs.Bytes.{store_ram}
 use Rattle.cpu.proofs.BytesLaws.{stored-leaves}
 use Rattle.cpu.specs.Translations.{one_page, translate_in, located_of}
 use Rattle.cpu.specs.Ends.{store_end, store_ram_end}
 use Rattle.cpu.specs.Memory.{stepped_now, located_now, translate_of, write_of, ram_after_write}
-use Rattle.cpu.specs.OpLaws.{on_now}
 use Rattle.cpu.specs.declared.Core.{Core}
-use Rattle.cpu.specs.declared.place.Place.TheVariants.{Whole}
 use Rattle.cpu.specs.System.{done_with, on_stored, zero_of, zero_ram}
 
 module _ (c : Core) (base : ℕ) (ram : List ℕ) (a : ℕ) (even : a % 8 ≡ 0) where
@@ -31,30 +29,12 @@ module _ (c : Core) (base : ℕ) (ram : List ℕ) (a : ℕ) (even : a % 8 ≡ 0)
   answer_for = (translate_of c (word_at base ram 8) a Write).answer
 
   pub one-page-only : (on : Bool) → crosses on a 8 ≡ false
-  one-page-only on = go on
-    where
-      long : 8 ≤ in_page a
-      long = omega arith
-
-      short : ltb (in_page a) 8 ≡ false
-      short = le-ltb _ _ long
-
-      go : (b : Bool) → crosses b a 8 ≡ false
-      go true = short
-      go false = refl
+  one-page-only on = grind arith
 
   -- it takes one translation
   pub one-located : located_now c (word_at base ram 8) a 8 Write ≡ one_page a (translate_in (bank_now c) c.privilege (word_at base ram 8) a Write c.tlb)
   unfolding located_now located_of
-  one-located = rw (one-page-only (on_now c)) (go (translate_in (bank_now c) c.privilege (word_at base ram 8) a Write c.tlb).answer _ _)
-    where
-      go : (x : Answer) (y z : Located) → (if goes_on x false then y else z) ≡ z
-      go (Ok pa) y z = refl
-      go (Err fault) y z = refl
-
-  one_placed : (located_now c (word_at base ram 8) a 8 Write).placed ≡ placed_one a answer_for
-  unfolding translate_of stepped_now
-  one_placed = ap (λ (l : Located). l.placed) one-located
+  one-located = grind arith
 
   pub one-tlb : (write_of c base ram a 8).core.tlb ≡ (translate_in (bank_now c) c.privilege (word_at base ram 8) a Write c.tlb).tlb
   unfolding write_of after_access
@@ -62,34 +42,17 @@ module _ (c : Core) (base : ℕ) (ram : List ℕ) (a : ℕ) (even : a % 8 ≡ 0)
 
   -- what it does to RAM, by its translation's answer
   pub one-ram : (pa : ℕ) → answer_for ≡ Ok pa → ram_after_write c base ram a 8 0 ≡ stored base ram 8 pa 0
-  unfolding ram_after_write store_ram_end store_ram
-  one-ram pa e = rw (one_placed, e)
+  unfolding ram_after_write store_ram_end store_ram translate_of stepped_now
+  one-ram pa e = grind (arith, one-located)
 
   pub none-ram : (f : Fault) → answer_for ≡ Err f → ram_after_write c base ram a 8 0 ≡ ram
-  unfolding ram_after_write store_ram_end
-  none-ram f e = rw (one_placed, e)
+  unfolding ram_after_write store_ram_end translate_of stepped_now
+  none-ram f e = grind (arith, one-located)
 
   -- a store that is done has an address, of eight bytes of RAM
   pub one-done : (write_of c base ram a 8).answer ≡ Ok tt → (pa : ℕ) × ((answer_for ≡ Ok pa) × (within base (length ram) 8 pa ≡ true))
-  unfolding write_of store_end verdict_of
-  one-done = go (located_now c (word_at base ram 8) a 8 Write).placed one_placed answer_for refl
-    where
-      go : (x : Placed) → x ≡ placed_one a answer_for → (y : Answer) → answer_for ≡ y → (store_end x c.abort_pa base ram a 8).answer ≡ Ok tt
-          → (pa : ℕ) × ((answer_for ≡ Ok pa) × (within base (length ram) 8 pa ≡ true))
-      go x p (Err fault) e q =
-          let f : (store_end (Err (fault_at a fault)) c.abort_pa base ram a 8).answer ≡ Ok tt
-          = ap (λ (w : Placed). (store_end w c.abort_pa base ram a 8).answer) (sym (p ∙ ap (placed_one a) e)) ∙ q in
-          let z : ◌≡◌ {A = ℕ} 0 1 = cc in
-          absurd (omega arith)
-      go x p (Ok pa) e q =
-          let f : (store_end (Ok (Whole pa)) c.abort_pa base ram a 8).answer ≡ Ok tt
-          = ap (λ (w : Placed). (store_end w c.abort_pa base ram a 8).answer) (sym (p ∙ ap (placed_one a) e)) ∙ q in
-          (pa, (e, inside (within base (length ram) 8 pa) refl f))
-        where
-          inside : (b : Bool) → within base (length ram) 8 pa ≡ b → (store_end (Ok (Whole pa)) c.abort_pa base ram a 8).answer ≡ Ok tt
-              → within base (length ram) 8 pa ≡ true
-          inside true w f = w
-          inside false w f = let r = rw w at f in let z : ◌≡◌ {A = ℕ} 0 1 = cc in absurd (omega arith)
+  unfolding write_of store_end verdict_of translate_of stepped_now
+  one-done = grind (arith, one-located)
 
 -- ZEROS
 
@@ -153,12 +116,6 @@ module _ (n : ℕ) (c : Core) (base : ℕ) (ram : List ℕ) (va : ℕ) where
   unfolding zero_of zero_ram
   zero-none e = (rw e, rw e)
 
-  zero-next : (m : ℕ) → n ≡ suc m → (write_of c base ram va 8).answer ≡ Ok tt
-      → (zero_of m (write_of c base ram va 8).core base (ram_after_write c base ram va 8 0) (wrap (va + 8)) ≡ zero_of n c base ram va)
-      × (zero_ram m (write_of c base ram va 8).core base (ram_after_write c base ram va 8 0) (wrap (va + 8)) ≡ zero_ram n c base ram va)
-  unfolding zero_of zero_ram
-  zero-next m k e = (rw (k, zero_of, e), rw (k, zero_ram, e))
-
   module _ (h : n ≡ 0 → ⊥) where
     pub zero-stops : (s : Stop) → (write_of c base ram va 8).answer ≡ Err s
         → (write_of c base ram va 8 ≡ zero_of n c base ram va) × (ram_after_write c base ram va 8 0 ≡ zero_ram n c base ram va)
@@ -168,7 +125,8 @@ module _ (n : ℕ) (c : Core) (base : ℕ) (ram : List ℕ) (va : ℕ) where
     pub zero-goes : (write_of c base ram va 8).answer ≡ Ok tt
         → (zero_of (n - 1) (write_of c base ram va 8).core base (ram_after_write c base ram va 8 0) (wrap (va + 8)) ≡ zero_of n c base ram va)
         × (zero_ram (n - 1) (write_of c base ram va 8).core base (ram_after_write c base ram va 8 0) (wrap (va + 8)) ≡ zero_ram n c base ram va)
-    zero-goes e = zero-next (n - 1) (more n h) e
+    unfolding zero_of zero_ram
+    zero-goes e = grind (arith, more)
 
 -- the address of store n
 abbrev pub store_va : ℕ → ℕ → ℕ
@@ -244,15 +202,4 @@ module _ (base : ℕ) where
   -- where n + 1 are done, n are, and the last is
   pub zero-done : (n : ℕ) (c : Core) (ram : List ℕ) (va : ℕ) → (after (suc n) c ram va).answer ≡ Ok tt
       → ((after n c ram va).answer ≡ Ok tt) × ((write_of (after n c ram va).core base (left n c ram va) (store_va va n) 8).answer ≡ Ok tt)
-  zero-done n c ram va e = go (after n c ram va).answer refl (ap (λ (r : Stored). r.answer) (sym (zero-last n c ram va)) ∙ e)
-    where
-      last : Stored
-      last = write_of (after n c ram va).core base (left n c ram va) (store_va va n) 8
-
-      go : (x : StoreAnswer) → (after n c ram va).answer ≡ x → (on_stored (after n c ram va).answer last (after n c ram va)).answer ≡ Ok tt
-          → ((after n c ram va).answer ≡ Ok tt) × (last.answer ≡ Ok tt)
-      go (Ok x) q f = (q, rw q at f)
-      go (Err s) q f =
-          let r : ◌≡◌ {A = StoreAnswer} (Err s) (Ok tt) = rw q at f in
-          let z : ◌≡◌ {A = ℕ} 0 1 = cc in
-          absurd (omega arith)
+  zero-done n c ram va e = grind (arith, zero-last)

@@ -1,5 +1,5 @@
 -- A zeroing whose stores are all given their addresses by the cache as it stands, which they leave alone: one store of zeros.
-use Rattle.cpu.specs.Results.{Located, Stepped, Translated}
+use Rattle.cpu.specs.Results.{Translated}
 use Rattle.std.specs.Prelude.{◌≡◌, ℕ, zero, suc, ◌+◌, ◌-◌, ◌*◌, ◌%◌, ◌^◌, ◌<◌, ◌≤◌, true, List, length, refl, Option, Ok}
 use Rattle.std.proofs.Math.Path.{sym, ap}
 use Rattle.std.proofs.Common.{◌∙◌, suc-add, le-leb, take-append-drop}
@@ -8,13 +8,10 @@ use Rattle.word.specs.Bits.{wrap}
 use Rattle.word.specs.Ram.{within, word_at, written, stored, bytes_of}
 use Rattle.word.proofs.RamLaws.{within_low, within-high, written_next}
 use Rattle.tlb.specs.declared.access.Kind.TheVariants.{Write}
-use Rattle.tlb.specs.declared.Tlb.{Tlb}
-use Rattle.tlb.specs.Answers.{Answer}
-use Rattle.cpu.specs.Core.{after_access, bank_now}
-use Rattle.cpu.specs.Place.{placed_one, verdict_of}
+use Rattle.cpu.specs.Core.{after_access}
+use Rattle.cpu.specs.Place.{verdict_of}
 use Rattle.cpu.specs.Ends.{store_end}
-use Rattle.cpu.specs.Translations.{translate_in}
-use Rattle.cpu.specs.Memory.{stepped_now, translate_of, stored_by, write_after, write_of, ram_after_write}
+use Rattle.cpu.specs.Memory.{stepped_now, translate_of, write_of, ram_after_write}
 use Rattle.cpu.proofs.BytesLaws.{stored-length}
 use Rattle.cpu.specs.declared.Core.{Core}
 use Rattle.cpu.specs.System.{done_with, on_stored, zero_of, zero_ram}
@@ -30,33 +27,14 @@ module _ (base : ℕ) (ram : List ℕ) (n pa : ℕ) (low : base ≤ pa) (high : 
 
   stored-inside : stored base ram n pa 0 ≡ written ram (pa - base) n 0
   unfolding stored
-  stored-inside = rw inside
+  stored-inside = grind arith
 
 -- one store of eight zero bytes
 module _ (c : Core) (base : ℕ) (ram : List ℕ) (a pa : ℕ) (even : a % 8 ≡ 0) (t : translate_of c (word_at base ram 8) a Write ≡ addressed c pa)
     (w : within base (length ram) 8 pa ≡ true) where
-  abbrev step : Stepped
-  step = translate_in (bank_now c) c.privilege (word_at base ram 8) a Write c.tlb
-
-  its-answer : step.answer ≡ Ok pa
-  unfolding translate_of stepped_now
-  its-answer = ap (λ (x : Translated). x.answer) t
-
-  its-tlb : step.tlb ≡ c.tlb
-  unfolding translate_of stepped_now after_access
-  its-tlb = ap (λ (x : Translated). x.core.tlb) t
-
-  put : stored_by c c.tlb (store_end (placed_one a (Ok pa)) c.abort_pa base ram a 8) ≡ done_with c
-  unfolding store_end verdict_of after_access
-  put = rw w
-
   pub write-steady : write_of c base ram a 8 ≡ done_with c
-  unfolding write_of
-  write-steady =
-      ap (λ (x : Located). write_after c x base ram a 8) (one-located c base ram a even)
-      ∙ ap (λ (x : Tlb). stored_by c x (store_end (placed_one a step.answer) c.abort_pa base ram a 8)) its-tlb
-      ∙ ap (λ (x : Answer). stored_by c c.tlb (store_end (placed_one a x) c.abort_pa base ram a 8)) its-answer
-      ∙ put
+  unfolding write_of translate_of stepped_now after_access store_end verdict_of
+  write-steady = grind (arith, one-located)
 
 -- zeros after zeros
 written_none : (xs : List ℕ) (at v : ℕ) → written xs at 0 v ≡ xs
@@ -85,13 +63,7 @@ written-join xs at (suc m) n h =
 
 stored-join : (base : ℕ) (ram : List ℕ) (m n pa : ℕ) → base ≤ pa → pa + (m + n) ≤ base + length ram
     → stored base (stored base ram m pa 0) n (pa + m) 0 ≡ stored base ram (m + n) pa 0
-stored-join base ram m n pa low high =
-    let l = stored-length base ram m pa 0 in
-    let s : pa + m - base ≡ pa - base + m = omega arith in
-    stored-inside base (stored base ram m pa 0) n (pa + m) (omega arith) (omega arith)
-    ∙ (λ i. written (stored-inside base ram m pa low (omega arith) i) (s i) n 0)
-    ∙ sym (written-join ram (pa - base) m n (omega arith))
-    ∙ sym (stored-inside base ram (m + n) pa low high)
+stored-join base ram m n pa low high = grind (arith, stored-length, stored-inside, written-join)
 
 -- store after store
 module _ (base : ℕ) (c : Core) where

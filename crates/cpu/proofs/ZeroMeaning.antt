@@ -5,8 +5,6 @@ use Rattle.std.proofs.Math.Path.{refl, ap, subst}
 use Rattle.std.proofs.Common.{sym, ◌∙◌}
 use native.Mathlib.Omega.{arith}
 use borrow.Author.Tests.{ltb-true, ltb-false, le-leb}
-use Rattle.std.proofs.Common.{le-ltb}
-use Rattle.cpu.specs.Place.{in_page}
 use Rattle.word.specs.Bits.{align_down}
 use Rattle.word.specs.Ram.{within, word_at, stored}
 use Rattle.walk.specs.Regime.{bank_of}
@@ -68,21 +66,12 @@ module _ (c : Core) (base : ℕ) (ram : List ℕ) (va : ℕ) (even : va % 8 ≡ 
       go (Err s) = refl
 
   module _ (n : ℕ) (room : va + 8 * suc n ≤ 2 ^ 64) where
-    here : store_va va n ≡ va + 8 * n
-    here = store-va n va (omega arith)
-
     even-here : (va + 8 * n) % 8 ≡ 0
     even-here = omega arith
 
     -- what n + 1 stores leave
     ram-then : (zero_of n c base ram va).answer ≡ Ok tt → ram_at (suc n) ≡ ram_after_write (core_at n) base (ram_at n) (va + 8 * n) 8 0
-    ram-then e =
-        zero-ram-last base n c ram va
-        ∙ ap (λ (x : StoreAnswer). on_stored x (ram_after_write (core_at n) base (ram_at n) (store_va va n) 8 0) (ram_at n)) e
-        ∙ ap (λ (a : ℕ). ram_after_write (core_at n) base (ram_at n) a 8 0) here
-
-    last_done : (zero_of (suc n) c base ram va).answer ≡ Ok tt → (write_of (core_at n) base (ram_at n) (va + 8 * n) 8).answer ≡ Ok tt
-    last_done e = ap (λ (a : ℕ). (write_of (core_at n) base (ram_at n) a 8).answer) (sym here) ∙ (zero-done base n c ram va e).1
+    ram-then e = grind (arith, zero-ram-last, store_va, store-va)
 
     record Last : Type 0 where
       pa : ℕ
@@ -91,14 +80,7 @@ module _ (c : Core) (base : ℕ) (ram : List ℕ) (va : ℕ) (even : va % 8 ≡ 
       after : ram_at (suc n) ≡ stored base (ram_at n) 8 pa 0
 
     last-store : (zero_of (suc n) c base ram va).answer ≡ Ok tt → Last
-    last-store e =
-        let o = one-done (core_at n) base (ram_at n) (va + 8 * n) even-here (last_done e) in
-        record {
-          pa = o.0;
-          answer = o.1.0;
-          inside = o.1.1;
-          after = ram-then (zero-done base n c ram va e).0 ∙ one-ram (core_at n) base (ram_at n) (va + 8 * n) even-here o.0 o.1.0;
-        }
+    last-store e = grind (arith, one-done, zero-done, one-ram, zero-ram-last, store_va, store-va)
 
   -- every store of a zeroing that is done: its eight bytes are zero in the end
   pub zero-each : (n j : ℕ) → va + 8 * n ≤ 2 ^ 64 → (zero_of n c base ram va).answer ≡ Ok tt → j < n → StoreZeros c base ram va n j
@@ -206,11 +188,7 @@ module _ (c : Core) (base : ℕ) (ram : List ℕ) (va pa : ℕ) (well : WellForm
   -- the core after one store more
   core-then : (n : ℕ) → n < 8 → (zero_of n c base ram va).answer ≡ Ok tt
       → (zero_of (suc n) c base ram va).core ≡ (write_of (zero_of n c base ram va).core base (zero_ram n c base ram va) (va + 8 * n) 8).core
-  core-then n h e =
-      ap (λ (r : Stored). r.core) (zero-last base n c ram va)
-      ∙ ap (λ (x : StoreAnswer). (on_stored x (write_of (zero_of n c base ram va).core base (zero_ram n c base ram va) (store_va va n) 8)
-      (zero_of n c base ram va)).core) e
-      ∙ ap (λ (a : ℕ). (write_of (zero_of n c base ram va).core base (zero_ram n c base ram va) a 8).core) (store-va n va (omega arith))
+  core-then n h e = grind (arith, zero-last, store_va, store-va)
 
   agree : (n : ℕ) → n < 8 → (zero_of n c base ram va).answer ≡ Ok tt → Agrees n
   unfolding zero_of zero_ram
@@ -291,5 +269,4 @@ unfolding sys_of sys_ram
 zva-zeroes c base ram op1 crn crm op2 rt well small q e = rw q (zero-line c base ram (reg_of c rt) well small (rw q at e))
 
 pub never-crosses : NeverCrosses
-never-crosses false x j h = refl
-never-crosses true x j h = le-ltb (in_page (align_down x 6 + 8 * j)) 8 (omega arith)
+never-crosses q x j h = grind arith

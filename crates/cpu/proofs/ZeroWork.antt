@@ -1,7 +1,8 @@
 -- What a zeroing reads, store by store, on plain values.
+use Rattle.std.proofs.Common.{arith}
 use Rattle.std.specs.Prelude.{Ok, Err}
 use Rattle.cpu.specs.Results.{Stored}
-use Rattle.std.proofs.Common.{◌≡◌, ℕ, suc, ◌+◌, ◌-◌, List, sym, ap, ◌∙◌}
+use Rattle.std.proofs.Common.{◌≡◌, ℕ, ◌+◌, ◌-◌, List, sym, ap, ◌∙◌}
 use Rattle.word.specs.Bits.{wrap}
 use Rattle.exception.specs.declared.kind.Stop.{Stop}
 use Rattle.tlb.specs.declared.work.Work.{Work}
@@ -15,12 +16,6 @@ module _ (n : ℕ) (c : Core) (base : ℕ) (ram : List ℕ) (va : ℕ) (w : Work
   unfolding zero_work
   none-work e = rw e
 
-  next-work : (m : ℕ) → n ≡ suc m → (write_of c base ram va 8).answer ≡ Ok tt
-      → zero_work m (write_of c base ram va 8).core base (ram_after_write c base ram va 8 0) (wrap (va + 8)) (write_work c base ram va 8 w)
-      ≡ zero_work n c base ram va w
-  unfolding zero_work
-  next-work m k e = rw (k, zero_work, e)
-
   module _ (s : Stored) (v : Work) (h : n ≡ 0 → ⊥) (es : s ≡ write_of c base ram va 8) (ev : v ≡ write_work c base ram va 8 w) where
     pub stops-work : (st : Stop) → s.answer ≡ Err st → v ≡ zero_work n c base ram va w
     unfolding zero_work
@@ -29,7 +24,5 @@ module _ (n : ℕ) (c : Core) (base : ℕ) (ram : List ℕ) (va : ℕ) (w : Work
     module _ (ram' : List ℕ) (er : ram' ≡ ram_after_write c base ram va 8 0) where
       pub goes-work : (u : Work) (next : ℕ) → s.answer ≡ Ok tt → next ≡ wrap (va + 8) → u ≡ zero_work (n - 1) s.core base ram' next v
           → u ≡ zero_work n c base ram va w
-      goes-work u next e en el =
-          el
-          ∙ (λ i. zero_work (n - 1) (es i).core base (er i) (en i) (ev i))
-          ∙ next-work (n - 1) (more n h) (ap (λ (x : Stored). x.answer) (sym es) ∙ e)
+      unfolding zero_work
+      goes-work u next e en el = grind (arith, more)

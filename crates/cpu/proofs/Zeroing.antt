@@ -1,4 +1,5 @@
 -- A zeroing, store by store, on plain values.
+use Rattle.std.proofs.Common.{arith}
 use Rattle.std.specs.Prelude.{Ok, Err}
 use Rattle.cpu.specs.Results.{Stored}
 use Rattle.std.proofs.Common.{◌≡◌, ℕ, ◌+◌, ◌-◌, List, sym, ap, ◌∙◌}
@@ -29,7 +30,7 @@ module _ (n : ℕ) (c : Core) (base : ℕ) (ram : List ℕ) (va : ℕ) where
       goes e = ap (λ (x : Stored). x.answer) (sym es) ∙ e
 
       pub goes-is : (r : Stored) (next : ℕ) → s.answer ≡ Ok tt → next ≡ wrap (va + 8) → r ≡ zero_of (n - 1) s.core base ram' next → r ≡ zero_of n c base ram va
-      goes-is r next e en el = el ∙ (λ i. zero_of (n - 1) (es i).core base (er i) (en i)) ∙ (zero-goes n c base ram va h (goes e)).0
+      goes-is r next e en el = grind (arith, zero-goes)
 
       pub goes-ram : (ys : List ℕ) (next : ℕ) → s.answer ≡ Ok tt → next ≡ wrap (va + 8) → ys ≡ zero_ram (n - 1) s.core base ram' next
           → ys ≡ zero_ram n c base ram va

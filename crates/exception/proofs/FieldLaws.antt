@@ -1,6 +1,6 @@
 -- Where the values are those that the manual has, what the definitions add for others says nothing.
-use Rattle.std.specs.Prelude.{if◌then◌else◌, ◌≡◌, ℕ, ◌+◌, ◌/◌, ◌%◌, ◌^◌, ◌<◌, Bool, true, false, ◌==◌}
-use Rattle.std.proofs.Common.{mod-eq_of_lt, arith}
+use Rattle.std.specs.Prelude.{◌≡◌, ℕ, ◌+◌, ◌%◌, ◌^◌, ◌<◌, Bool}
+use Rattle.std.proofs.Common.{arith}
 use Rattle.std.specs.Int.Bits.{or_zero_r}
 use Rattle.word.specs.Bits.{flag, wrap}
 use Rattle.exception.specs.declared.flags.Flags.{Flags}
@@ -18,16 +18,9 @@ spsr-fields level f h = rw (own-stray f h) (or_zero_r (psr level f))
 
 -- a status of six bits
 pub status-fields : (write : Bool) (fsc : ℕ) → fsc < 2 ^ 6 → data_status write fsc ≡ flag write (2 ^ 6) + fsc
-status-fields true fsc h = let z : fsc / 2 ^ 6 ≡ 0 = omega arith in rw z (omega arith)
-status-fields false fsc h = let z : fsc / 2 ^ 6 ≡ 0 = omega arith in rw z (omega arith)
+status-fields write fsc h = grind arith
 
 -- VBAR_ELx<10:0> are zero: the address is VBAR_ELx<63:11> and the offset below
 pub vector-fields : (vbar from to : ℕ) (sp : Bool) → vbar < 2 ^ 64 → vbar % 2 ^ 11 ≡ 0
     → wrap (vbar + vect_offset from to sp) ≡ vbar + vect_offset from to sp
-vector-fields vbar from to sp h z = go (from == to) sp
-  where
-    go : (same : Bool) (b : Bool) → wrap (vbar + (if same then if b then 0x200 else 0x000 else 0x400)) ≡ vbar + (if same then if b then 0x200 else 0x000 else 0x400)
-    go true true = mod-eq_of_lt (omega arith)
-    go true false = mod-eq_of_lt (omega arith)
-    go false true = mod-eq_of_lt (omega arith)
-    go false false = mod-eq_of_lt (omega arith)
+vector-fields vbar from to sp h z = grind arith

@@ -1,11 +1,13 @@
 -- Numbers joined by OR: a data abort's status, and PSTATE's words.
+use Rattle.std.proofs.Common.{rules}
+use Rattle.std.proofs.lemmas.Grind.{common_steps}
 use Rattle.std.proofs.Common.{◌≡◌, ℕ, zero, suc, ◌+◌, ◌*◌, ◌/◌, ◌%◌, ◌^◌, ◌<◌, ◌≤◌, max, Bool, true, false, sym, refl, ap, ◌∙◌, ap₂, pow-suc, mod-eq_of_lt, arith}
 use native.Mathlib.Nat.{max-le}
-use lib.Bits.{bit_and, and_mask, bit_or, or_comm, or_lt, or_zero_l, or_zero_r, or_block, or_shifted, or_shifted_r, or_shr, or_step}
+use lib.Bits.{bit_and, bit_or, or_comm, or_lt, or_zero_l, or_zero_r, or_block, or_shifted, or_shifted_r, or_shr, or_step}
 use lib.Pow.{split}
 use mir.Val.{bool_byte}
 use Rattle.std.proofs.lemmas.Nat.Bits.{and_pow}
-use Rattle.word.specs.Bits.{field, align_down, flag}
+use Rattle.word.specs.Bits.{field, align_down}
 use Rattle.exception.specs.declared.flags.Flags.{Flags}
 use Rattle.exception.specs.Pstate.{stray_bits, spsr_of}
 use Rattle.exception.specs.Syndrome.{esr_of, data_status}
@@ -64,7 +66,7 @@ abbrev Small : ℕ → Type 0
 Small n = n < 2 ^ 64
 
 assoc : (p q r : ℕ) → Small p → Small q → Small r → bit_or (bit_or p q) r ≡ bit_or p (bit_or q r)
-assoc p q r = assoc-below 64 p q r
+assoc p q r = search (rules, assoc-below)
 
 -- the second of two parts goes last
 last : (p q r : ℕ) → Small p → Small q → Small r → bit_or (bit_or p q) r ≡ bit_or (bit_or p r) q
@@ -124,15 +126,4 @@ module _ (level : ℕ) (f : Flags) (hn : f.nzcv < 2 ^ 32) (hd : f.daif < 2 ^ 32)
 
   pub psr_word : bit_or (bit_or (bit_or f.nzcv f.daif) (bit_and level 3 * 4 % 2 ^ 64)) (bool_byte f.spsel) ≡ spsr_of level f
   unfolding spsr_of
-  psr_word =
-      let l : bit_and level 3 * 4 % 2 ^ 64 ≡ level % 4 * 4 = rw (and_mask level 2) (mod-eq_of_lt (omega arith)) in
-      rw l (joined (bool_byte f.spsel) (small f.spsel))
-      ∙ ap (λ (n : ℕ). bit_or (field f.nzcv 28 4 * 2 ^ 28 + field f.daif 6 4 * 2 ^ 6 + level % 4 * 4 + n) (stray_bits f)) (as_flag f.spsel)
-    where
-      small : (b : Bool) → bool_byte b < 4
-      small true = omega arith
-      small false = omega arith
-
-      as_flag : (b : Bool) → bool_byte b ≡ flag b 1
-      as_flag true = refl
-      as_flag false = refl
+  psr_word = grind (arith, common_steps, mod-eq_of_lt, joined)

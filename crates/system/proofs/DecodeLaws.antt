@@ -1,4 +1,5 @@
 -- Laws of the table, and of what is decoded by it.
+use Rattle.std.proofs.Common.{rules}
 use Rattle.std.specs.Prelude.{if◌then◌else◌, ◌≡◌, Bool, true, false, not, ◌&&◌, ◌||◌, List, [], ◌∷◌, ◌⊎◌, ℕ, zero, suc, ◌/◌, ◌≤◌, ◌<◌, ◌==◌}
 use Rattle.std.proofs.Math.Path.{refl}
 use Rattle.std.proofs.Common.{sym, ap, subst, ◌∙◌, inl, inr, arith, eqb-true, ne_eqb, le-leb, leb-true}
@@ -16,12 +17,10 @@ every p [] = true
 every p (r ∷ rs) = p r && every p rs
 
 implied : (a b : Bool) → a ≡ true → (not a || b) ≡ true → b ≡ true
-implied true b e h = h
-implied false b e h = absurd (false≢true e)
+implied a b e h = grind arith
 
 either : (a b : Bool) → (a || b) ≡ true → (a ≡ true) ⊎ (b ≡ true)
-either true b e = inl refl
-either false b e = inr e
+either a b e = grind arith
 
 -- what is found is a row of the list that has the encoding, or none
 module _ (P : Row → Type 0) (p : Row → Bool) (op1 crn crm op2 : ℕ) (good : (r : Row) → op1 ≡ r.op1 → crn ≡ r.crn → p r ≡ true → P r)
@@ -39,45 +38,19 @@ module _ (P : Row → Type 0) (p : Row → Bool) (op1 crn crm op2 : ℕ) (good :
 
 -- an encoding that names nothing is refused at every level
 pub absent-refused : (level : ℕ) → refusal level ≡ ruled level absent
-absent-refused zero = refl
-absent-refused (suc n) = rw (le-leb 1 (suc n) (omega arith), ne_eqb (suc n) 0 (λ e. omega arith))
+absent-refused level = grind arith
 
 module _ (level op1 crn crm op2 : ℕ) where
   -- from EL1 and from op1 / 2 up, what is named is what is decoded
   pub at_level : 1 ≤ level → op1 / 2 ≤ level → operation (named op1 crn crm op2).name ≡ decode_of level op1 crn crm op2
   unfolding decode_of named
-  at_level o h =
-      found (λ r. operation r.name ≡ ruled level r) (λ r. leb r.lowest 1 || leb r.lowest (r.op1 / 2)) op1 crn crm op2
-      (λ r a b t. here r a (either (leb r.lowest 1) (leb r.lowest (r.op1 / 2)) t)) (rw (le-leb 1 level o)) table refl
-    where
-      known : (r : Row) → r.lowest ≤ level → operation r.name ≡ ruled level r
-      known r k = rw (le-leb r.lowest level k)
-
-      here : (r : Row) → op1 ≡ r.op1 → (leb r.lowest 1 ≡ true) ⊎ (leb r.lowest (r.op1 / 2) ≡ true) → operation r.name ≡ ruled level r
-      here r a (inl e) = known r (omega (arith, leb-true r.lowest 1 e))
-      here r a (inr e) = let k : r.op1 / 2 ≤ level = rw a at h in known r (omega (arith, leb-true r.lowest (r.op1 / 2) e, k))
+  at_level o h = search (rules, le-leb, inl, leb-true, inr, both, eqb-true)
 
   -- below, everything is refused but the rows that p names, where p names no row of this op1 and CRn
   refused_but : (p : Row → Bool) → every (λ r. p r || (leb 1 r.lowest && leb (r.op1 / 2) r.lowest)) table ≡ true
       → ((r : Row) → op1 ≡ r.op1 → crn ≡ r.crn → p r ≡ true → ⊥) → (level < 1) ⊎ (level < op1 / 2) → decode_of level op1 crn crm op2 ≡ refusal level
   unfolding decode_of named
-  refused_but p all n h =
-      found (λ r. ruled level r ≡ refusal level) (λ r. p r || (leb 1 r.lowest && leb (r.op1 / 2) r.lowest)) op1 crn crm op2
-      (λ r a b t. here r a b (either (p r) (leb 1 r.lowest && leb (r.op1 / 2) r.lowest) t)) (sym (absent-refused level)) table all
-    where
-      known : (r : Row) → level < r.lowest → ruled level r ≡ refusal level
-      known r k = rw (lt-leb r.lowest level k)
-
-      above : (r : Row) → op1 ≡ r.op1 → 1 ≤ r.lowest → r.op1 / 2 ≤ r.lowest → (level < 1) ⊎ (level < op1 / 2) → ruled level r ≡ refusal level
-      above r a x y (inl z) = known r (omega arith)
-      above r a x y (inr z) = let k : level < r.op1 / 2 = rw a at z in known r (omega arith)
-
-      here : (r : Row) → op1 ≡ r.op1 → crn ≡ r.crn → (p r ≡ true) ⊎ ((leb 1 r.lowest && leb (r.op1 / 2) r.lowest) ≡ true)
-          → ruled level r ≡ refusal level
-      here r a b (inl e) = absurd (n r a b e)
-      here r a b (inr e) =
-          let k = both (leb 1 r.lowest) (leb (r.op1 / 2) r.lowest) e in
-          above r a (leb-true 1 r.lowest k.0) (leb-true (r.op1 / 2) r.lowest k.1) h
+  refused_but p all n h = search (rules, found, either, absent-refused, lt-leb, inl, inr, both, leb-true)
 
   -- everything but op1 3
   pub too-low : (op1 ≡ 3 → ⊥) → (level < 1) ⊎ (level < op1 / 2) → decode_of level op1 crn crm op2 ≡ refusal level
@@ -86,13 +59,7 @@ module _ (level op1 crn crm op2 : ℕ) where
   -- CRn 7 and 8 alone name an operation
   pub other_crn : (crn ≡ 7 → ⊥) → (crn ≡ 8 → ⊥) → decode_of level op1 crn crm op2 ≡ refusal level
   unfolding decode_of named
-  other_crn n m =
-      found (λ r. ruled level r ≡ refusal level) (λ r. r.crn == 7 || r.crn == 8) op1 crn crm op2
-      (λ r a b t. absurd (neither r b (either (r.crn == 7) (r.crn == 8) t))) (sym (absent-refused level)) table refl
-    where
-      neither : (r : Row) → crn ≡ r.crn → ((r.crn == 7) ≡ true) ⊎ ((r.crn == 8) ≡ true) → ⊥
-      neither r b (inl e) = n (b ∙ eqb-true r.crn 7 e)
-      neither r b (inr e) = m (b ∙ eqb-true r.crn 8 e)
+  other_crn n m = search rules
 
 pub ruleset refusals = (too-low)
 
@@ -191,17 +158,7 @@ user_fits Unimplemented = true
 
 user-fits : (o : SysOp) → user_fits o ≡ true → UserInEl1 o
 unfolding user_fits is_el1
-user-fits (At f) t = λ e. go f.regime (implied f.user (is_el1 f.regime) e t)
-  where
-    go : (r : Regime) → is_el1 r ≡ true → r ≡ El1
-    go El1 h = refl
-    go El2 h = absurd (false≢true h)
-    go El3 h = absurd (false≢true h)
-user-fits Tlbi t = tt
-user-fits Zva t = tt
-user-fits Nothing t = tt
-user-fits Undefined t = tt
-user-fits Unimplemented t = tt
+user-fits o t = grind arith
 
 pub user-el1 : (level op1 crn crm op2 : ℕ) (f : AtForm) → decode_of level op1 crn crm op2 ≡ At f → f.user ≡ true → f.regime ≡ El1
 unfolding decode_of named user_fits is_el1

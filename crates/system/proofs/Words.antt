@@ -1,10 +1,11 @@
 -- Bits tested by AND, and the two formats of PAR_EL1, joined by OR.
-use Rattle.std.proofs.Common.{◌≡◌, refl, ap₂, nat_eq, not, ℕ, zero, suc, ◌+◌, ◌*◌, ◌/◌, ◌%◌, ◌^◌, ◌<◌, ◌≤◌, Bool, true, false, sym, ap, ◌∙◌, mod-eq_of_lt, arith}
+use Rattle.std.proofs.lemmas.Grind.{common_steps}
+use Rattle.std.proofs.Common.{◌≡◌, refl, nat_eq, not, ℕ, zero, suc, ◌+◌, ◌*◌, ◌/◌, ◌%◌, ◌^◌, ◌<◌, ◌≤◌, Bool, sym, ap, ◌∙◌, mod-eq_of_lt, arith}
 use lib.Bits.{bit_and, bit_or, and_mask, and_block, and_le_r, or_shifted, or_shifted_r}
 use lib.Pow.{split}
 use mir.Val.{bool_byte}
 use Rattle.std.proofs.lemmas.Nat.Bits.{and_pow}
-use Rattle.word.specs.Bits.{bit0, bit_on, field, flag}
+use Rattle.word.specs.Bits.{bit0, bit_on, field}
 use Rattle.sysreg.specs.declared.regs.Regime.{Regime}
 use Rattle.system.specs.declared.decode.SysOp.TheVariants.{At}
 use Rattle.system.specs.Par.{success, abort}
@@ -19,16 +20,11 @@ user_bit x = let e : bit_and x 2 ≡ x / 2 % 2 * 2 = and_pow x 1 in rw e (go (x 
     go (suc (suc n)) h = absurd (omega arith)
 
 write_bit : (x : ℕ) → not (nat_eq (bit_and x 1) 0) ≡ bit0 x
-write_bit x = rw (and_mask x 1) (go (x % 2) (omega arith))
-  where
-    go : (n : ℕ) → n < 2 → not (nat_eq n 0) ≡ nat_eq n 1
-    go zero h = refl
-    go (suc zero) h = refl
-    go (suc (suc n)) h = absurd (omega arith)
+write_bit x = grind (arith, common_steps)
 
 pub at_form : (r : Regime) (x : ℕ) → At (record { regime = r; user = not (nat_eq (bit_and x 2) 0); write = not (nat_eq (bit_and x 1) 0) })
     ≡ At (record { regime = r; user = bit_on x 1; write = bit0 x })
-at_form r x = ap₂ (λ (u w : Bool). At (record { regime = r; user = u; write = w })) (user_bit x) (write_bit x)
+at_form r x = grind (arith, user_bit, write_bit)
 
 -- a fault
 pub fault_word : (fsc : ℕ) → fsc < 2 ^ 8 → bit_or (bit_or 1 (fsc * 2 % 2 ^ 64)) 0x800 ≡ abort fsc
@@ -71,13 +67,4 @@ fields_join a p n s ha hp hn hs =
 pub success_word : (attr pa : ℕ) (ns : Bool) (sh : ℕ) → attr < 256 → sh < 4
     → bit_or (bit_or (bit_or (bit_or (attr * 2 ^ 56 % 2 ^ 64) (bit_and pa 0xFFFF_FFFF_F000)) 0x800) (bool_byte ns * 2 ^ 9)) (sh * 2 ^ 7 % 2 ^ 64) ≡ success attr pa ns sh
 unfolding success
-success_word attr pa ns sh ha hs =
-    let m : attr * 2 ^ 56 % 2 ^ 64 ≡ attr * 2 ^ 56 = mod-eq_of_lt (omega arith) in
-    let k : sh * 2 ^ 7 % 2 ^ 64 ≡ sh * 2 ^ 7 = mod-eq_of_lt (omega arith) in
-    rw (m, k, pa_masked pa) (go ns)
-  where
-    go : (b : Bool)
-        → bit_or (bit_or (bit_or (bit_or (attr * 2 ^ 56) (field pa 12 36 * 2 ^ 12)) 0x800) (bool_byte b * 2 ^ 9)) (sh * 2 ^ 7)
-        ≡ attr * 2 ^ 56 + field pa 12 36 * 2 ^ 12 + 2 ^ 11 + flag b (2 ^ 9) + sh * 2 ^ 7
-    go true = fields_join attr (field pa 12 36) 1 sh ha (omega arith) (omega arith) hs
-    go false = fields_join attr (field pa 12 36) 0 sh ha (omega arith) (omega arith) hs
+success_word attr pa ns sh ha hs = grind (arith, mod-eq_of_lt, pa_masked, fields_join)

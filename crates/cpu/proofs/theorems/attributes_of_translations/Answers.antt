@@ -1,4 +1,3 @@
-use Rattle.std.specs.Prelude.{refl}
 use Rattle.word.specs.Ram.{word_at, little_endian, bytes_of}
 use Rattle.walk.specs.Tag.{untagged}
 use Rattle.walk.specs.Size.{pa_size}
@@ -13,6 +12,5 @@ use Rattle.cpu.specs.System.{with_par, at_of, sys_of}
 use Rattle.cpu.proofs.theorems.attributes_of_translations.Goals as goal
 
 pub returns : goal.returns
-unfolding sys_of at_of with_par reg_of named decode_of at_par par_in fresh_of leaf_par success abort walk_of table_walk walk_range walk_from lookup_next level_next
-    leaf_result leaf_translation leaf_permissions table_next descaddr range_of params_of pa_size untagged word_at little_endian bytes_of
-returns c = record { attributes = λ x. record { s1e1r = refl; s12e1r = refl; s1e2r = refl; s1e3r = refl } }
+unfolding sys_of at_of with_par reg_of named decode_of at_par par_in fresh_of leaf_par success abort walk_of table_walk walk_range walk_from lookup_next level_next leaf_result leaf_translation leaf_permissions table_next descaddr range_of params_of pa_size untagged word_at little_endian bytes_of
+returns c = assumption

