@@ -1,6 +1,6 @@
 -- What the contracts of `audit` rest on: a leaf is judged as the core without a cache judges it, and what a call drops is
 -- read off its encoding or its registers.
-use Rattle.std.specs.Prelude.{if◌then◌else◌, ◌≡◌, refl, true, List, [], ◌∷◌, ℕ, ◌*◌, ◌/◌, ◌+◌, ◌%◌, ◌==◌, ◌≤◌, Ok, Err}
+use Rattle.std.specs.Prelude.{if◌then◌else◌, ◌≡◌, refl, true, List, [], ◌∷◌, ℕ, ◌*◌, ◌/◌, ◌+◌, ◌%◌, ◌==◌, ◌≤◌, Ok, Err, Bool, length, count_by}
 use Rattle.std.proofs.Common.{◌∙◌, ap, sym, arith}
 use Rattle.fault.specs.First.{first}
 use Rattle.walk.specs.Regime.{bank_of, stage1_on}
@@ -23,8 +23,14 @@ use Rattle.cpu.specs.declared.call.Call.TheVariants.{System, Register}
 use Rattle.history.specs.Window.{Ram, memory_of}
 use Rattle.transparency.specs.Bare.{missed_in, op_in, operand_in, written_in, ruling_in, by_write, if_allowed}
 use Rattle.transparency.specs.Claim.{answer_by, untagged_in, uncached, drops_of}
-use Rattle.audit.specs.Answers.{fresh_answer}
-use Rattle.audit.specs.declared.answers.{Ask.Ask, Answered.Answered}
+use Rattle.transparency.specs.Claim.{answers_of}
+use Rattle.transparency.specs.Steps.{Step}
+use Rattle.tlb.specs.Answers.{Answer}
+use Rattle.tlb.specs.Asks.{Given}
+use Rattle.tlb.specs.Lists.{Each, done, more}
+use Rattle.audit.specs.Answers.{fresh_answer, given_in, listed}
+use Rattle.audit.specs.Counting.{differ, is_stale, stale_in}
+use Rattle.audit.specs.declared.answers.{Ask.Ask, Answered.Answered, Answers.Answers}
 
 -- an entry made of a leaf is judged as the leaf is
 judged-leaf : (r : Regime) (p : Privilege) (k : Kind) (va : ℕ) (leaf : Leaf) → leaf.level ≤ 3
@@ -61,3 +67,24 @@ tlbi-drops b m e h o = rw (h, o) refl
 pub write-drops : (b : Bare) (m : Ram) (key value : ℕ) (l : List Inval) → missed_in b m (Register key value) ≡ 0
     → if_allowed (ruling_in b m (Register key value)) l [] ≡ if_allowed (by_write (written_in b key value).answer) l []
 write-drops b m key value l h = rw h refl
+
+-- COUNTS
+
+counted : (c : Core) (m : Ram) (r : Answers) → Each (λ (a : Answered). a.fresh ≡ fresh_answer c m a.ask) (listed r)
+    → count_by (is_stale c m) (given_in r) ≡ count_by (λ (a : Answered). differ a.core a.fresh) (listed r)
+counted c m Answers.Nothing h = refl
+counted c m (Answers.One a) (more h done) = ap (λ (x : Answer). count_by (λ (b : Bool). b) (differ a.core x ∷ [])) (sym h)
+counted c m (Answers.Two a b) (more h (more k done)) = λ i. count_by (λ (t : Bool). t) (differ a.core (sym h i) ∷ differ b.core (sym k i) ∷ [])
+
+-- what is counted by the answers beside the core's is what the claim's definition counts
+pub stale_counted : (c : Core) (s : Step) (r : Answers) → given_in r ≡ answers_of c s → Each (λ (a : Answered). a.fresh ≡ fresh_answer c s.ram a.ask) (listed r)
+    → stale_in c s ≡ count_by (λ (a : Answered). differ a.core a.fresh) (listed r)
+stale_counted c s r e h = ap (λ (l : List Given). count_by (is_stale c s.ram) l) (sym e) ∙ counted c s.ram r h
+
+listed-length : (r : Answers) → length (listed r) ≡ length (given_in r)
+listed-length Answers.Nothing = refl
+listed-length (Answers.One a) = refl
+listed-length (Answers.Two a b) = refl
+
+pub accesses_counted : (c : Core) (s : Step) (r : Answers) → given_in r ≡ answers_of c s → length (answers_of c s) ≡ length (listed r)
+accesses_counted c s r e = ap (λ (l : List Given). length l) (sym e) ∙ sym (listed-length r)

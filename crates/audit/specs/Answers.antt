@@ -10,8 +10,6 @@ use Rattle.history.specs.Window.{Ram}
 use Rattle.transparency.specs.Claim.{uncached}
 use Rattle.audit.specs.declared.answers.{Ask.Ask, Asked.Asked, Answered.Answered, Answers.Answers}
 use Rattle.audit.specs.declared.answers.Ask.TheVariants.{Translates, Fetches}
-use Rattle.audit.specs.declared.answers.Asked.TheVariants as Asked
-use Rattle.audit.specs.declared.answers.Answers.TheVariants as Answers
 
 -- a translation, in the claim's words
 abbrev pub ask_of : Ask → Asks.Ask

@@ -1,2 +1,3 @@
 -- What the contracts of `audit` cite.
 pub mod Answers
+pub mod Counting

@@ -7,6 +7,7 @@ ghost use Rattle.cpu.specs.Bare.{bare_of};
 ghost use Rattle.cpu.specs.OpLaws.{access_now};
 ghost use Rattle.history.specs.Window.{window_of};
 ghost use Rattle.transparency.specs.Claim.{access_in, answers_of, asked, sized_in, uncached};
+ghost use Rattle.audit.specs.Counting.{differ};
 ghost use Rattle.audit.specs.Answers.{ask_of, asks_in, fresh_answer, given_in, listed};
 
 use cpu::call::Call;
@@ -65,6 +66,7 @@ pub enum Answers {
 impl Answered {
     /// Whether a walk made now would not give the core's answer.
     pub fn is_stale(&self) -> bool
+        ensures value { result ≡ differ self.now.core self.now.fresh }
         ensures same { result ≡ false → self.now.core ≡ self.now.fresh }
         ensures apart { self.now.core ≡ self.now.fresh → result ≡ false }
     {

@@ -3,3 +3,4 @@
 //! and what the call invalidates.
 pub mod answers;
 pub mod dropped;
+pub mod judged;

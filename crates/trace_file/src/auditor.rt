@@ -1,8 +1,14 @@
 //! A trace under audit: each call is asked, before it is carried out, for what it is about to answer.
+ghost use Rattle.std.specs.Prelude.{◌≡◌, ◌+◌, ◌%◌, ◌^◌, length};
+ghost use Rattle.history.specs.Window.{window_of};
+ghost use Rattle.transparency.specs.Claim.{answers_of};
+ghost use Rattle.audit.specs.Counting.{stale_in};
+
 use crate::finding::Finding;
 use crate::kept::{Cause, Keeping, Kept};
 use audit::answers::{Answered, Answers};
-use audit::{answers, dropped};
+use audit::judged::Counts;
+use audit::{dropped, judged};
 use cpu::call::{Call, Reply};
 use cpu::check;
 use std::alloc::{AllocError, Global};
@@ -25,10 +31,8 @@ struct Invalidation {
 pub struct Auditor {
     keeping: Keeping,
     drops: Vec<Invalidation>,
-    /// the translations made
-    pub accesses: u64,
-    /// those of them whose answer was stale
-    pub stale: u64,
+    /// the translations made, and those of them whose answer was stale
+    pub counts: Counts,
     /// what was found and not taken away yet
     pub found: Vec<Finding>,
 }
@@ -57,8 +61,7 @@ impl Auditor {
         Ok(Auditor {
             keeping: Keeping::new(alloc)?,
             drops: Vec::new(alloc),
-            accesses: 0,
-            stale: 0,
+            counts: Counts::NONE,
             found: Vec::new(alloc),
         })
     }
@@ -79,20 +82,20 @@ impl Auditor {
         Finding::new(line, answered, kept, since, covering)
     }
 
-    // One translation of a line.
-    fn judge(
+    // One translation of a line: what is to be said of it where its answer is stale.
+    fn follow(
         &mut self,
         machine: &Machine,
         line: Cause,
         answered: Answered,
-    ) -> Result<(), AllocError> {
+    ) -> Result<(), AllocError>
+        ensures { self.new.counts ≡ self.old.counts }
+    {
         let ram = machine.ram.as_slice();
         let kept = self
             .keeping
             .answer(&machine.core, machine.base, ram, line, &answered);
-        self.accesses = self.accesses.wrapping_add(1);
         if answered.is_stale() {
-            self.stale = self.stale.wrapping_add(1);
             let finding = self.finding(line, answered, kept);
             self.found.push(finding)?;
         }
@@ -100,21 +103,23 @@ impl Auditor {
     }
 
     // A call: its translations, what it invalidates, and then the call.
-    fn call(
-        &mut self,
-        machine: &mut Machine,
-        line: Cause,
-        call: Call,
-    ) -> Result<Answer, AllocError> {
+    fn call(&mut self, machine: &mut Machine, line: Cause, call: Call) -> Result<Answer, AllocError>
+        ensures accesses { self.new.counts.accesses ≡ (self.old.counts.accesses
+            + length (answers_of machine.old.core
+            (record { ram = window_of machine.old.base machine.old.ram.items; call = call }))) % 2 ^ 64 }
+        ensures stale { self.new.counts.stale ≡ (self.old.counts.stale
+            + stale_in machine.old.core
+            (record { ram = window_of machine.old.base machine.old.ram.items; call = call })) % 2 ^ 64 }
+    {
         let (core, ram) = (&machine.core, machine.ram.as_slice());
-        let answers = answers::answers_to(core, machine.base, ram, call);
+        let answers = judged::judge(core, machine.base, ram, call, &mut self.counts);
         let what = dropped::dropped(core, machine.base, ram, call);
         match answers {
             Answers::Nothing => {}
-            Answers::One(answered) => self.judge(machine, line, answered)?,
+            Answers::One(answered) => self.follow(machine, line, answered)?,
             Answers::Two(answered, next) => {
-                self.judge(machine, line, answered)?;
-                self.judge(machine, line, next)?;
+                self.follow(machine, line, answered)?;
+                self.follow(machine, line, next)?;
             }
         }
         if let Some(what) = what {

@@ -146,6 +146,6 @@ impl<W: Write> Carrier for Audited<'_, W> {
             }
             self.auditor.found.clear();
         }
-        Ok(self.all || self.auditor.stale == 0)
+        Ok(self.all || self.auditor.counts.stale == 0)
     }
 }

@@ -3,6 +3,7 @@ use crate::auditor::Auditor;
 use crate::kept::{Cause, Kept};
 use crate::words::Aside;
 use audit::answers::Answered;
+use audit::judged::Counts;
 use json_text::{Count, Hex, Shown};
 use serde::{Described, Serialize, Serializer};
 use std::fmt;
@@ -89,8 +90,7 @@ impl Audit {
     /// Of a trace that was carried out to its end, or to its first stale answer.
     pub fn new(auditor: Auditor, all: bool) -> Self {
         let Auditor {
-            accesses,
-            stale,
+            counts: Counts { accesses, stale },
             found,
             ..
         } = auditor;

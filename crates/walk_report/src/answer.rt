@@ -1,4 +1,7 @@
 // What an access gets: from a walk made now, and from the core, cache and all.
+ghost use Rattle.std.specs.Prelude.{◌≡◌};
+ghost use Rattle.walk_report.specs.Told.{agree, core_told, told_by_walk, told_of};
+
 use crate::fields::Faulted;
 use cpu::Core;
 use cpu::call::{Call, Reply};
@@ -96,6 +99,8 @@ impl fmt::Display for Source {
 }
 
 impl From<Result<u64, Fault>> for Told {
+    ghost from_gives = { λ answer told. told ≡ told_of answer };
+
     fn from(answer: Result<u64, Fault>) -> Self {
         match answer {
             Ok(pa) => Told::Address(pa),
@@ -105,11 +110,26 @@ impl From<Result<u64, Fault>> for Told {
 }
 
 impl Told {
-    /// A walk's end, judged for the access.
-    pub fn of_walk(core: &Core, walked: Walked, regime: Regime, kind: Kind, va: u64) -> Self {
+    /// Whether the core is told as the walk is, or not at all.
+    pub fn agrees(self, core: Told) -> bool
+        ensures { result ≡ agree self core }
+    {
+        match (self, core) {
+            (_, Told::Nothing(_)) => true,
+            (Told::Address(pa), Told::Address(other)) => pa == other,
+            (Told::Fault(status), Told::Fault(other)) => status == other,
+            _ => false,
+        }
+    }
+
+    /// The end of a walk of the level's own regime, judged for the access.
+    pub fn of_walk(core: &Core, walked: Walked, kind: Kind, va: u64) -> Self
+        ensures { result ≡ told_by_walk core.now kind va walked }
+    {
         match walked {
             Ok(leaf) => {
                 let entry = Entry::new(leaf, core.tlb.asid, 0);
+                let regime = Regime::of_level(core.privilege.level);
                 let user = core.privilege.is_user(regime, kind);
                 Told::from(entry.judge(user, kind, va))
             }
@@ -125,7 +145,9 @@ impl Told {
         kind: Kind,
         va: u64,
         work: &mut Work,
-    ) -> Self {
+    ) -> Self
+        ensures { result ≡ core_told core.old base ram.old kind va }
+    {
         match core.step(base, ram, Call::Translate(kind, va), work) {
             Reply::Value(pa) => Told::Address(pa),
             Reply::Fault { fault, .. } => Told::Fault(fault.fsc),

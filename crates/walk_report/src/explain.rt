@@ -1,4 +1,8 @@
 // A translation explained: what a walk made now gives, beside what the core answers.
+ghost use Rattle.std.specs.Prelude.{◌≡◌};
+ghost use Rattle.word.specs.Ram.{word_at};
+ghost use Rattle.walk_report.specs.Told.{agree, core_told, walk_told};
+
 use crate::answer::{Source, Told};
 use crate::levels;
 use crate::levels::Steps;
@@ -133,15 +137,22 @@ pub struct Explained {
 }
 
 /// Explains a translation on a core and its window, which starts at `base`.
-pub fn explain(core: &mut Core, base: u64, ram: &mut [u8], kind: Kind, va: u64) -> Explained {
+pub fn explain(core: &mut Core, base: u64, ram: &mut [u8], kind: Kind, va: u64) -> Explained
+    ensures agree { result.agree
+        ≡ agree (walk_told core.old (word_at base ram.old 8) kind va) (core_told core.old base ram.old kind va) }
+{
     let privilege = core.privilege;
     let regime = Regime::of_level(privilege.level);
     let bank = core.bank();
     let untagged = bank.untag(regime, va);
     let (on, flat) = (bank.stage1_on(regime), access::flat(&bank, regime, va));
-    let walk = on.then(|| levels::walk(bank, regime, untagged, base, ram));
+    let walk = if on {
+        Some(levels::walk(bank, regime, untagged, base, ram))
+    } else {
+        None
+    };
     let walk_now = match &walk {
-        Some(steps) => Told::of_walk(core, steps.answer, regime, kind, va),
+        Some(steps) => Told::of_walk(core, steps.answer, kind, va),
         None => Told::from(flat),
     };
     let memory = match walk.map(|steps| steps.answer) {
@@ -168,7 +179,7 @@ pub fn explain(core: &mut Core, base: u64, ram: &mut [u8], kind: Kind, va: u64) 
         verdict: verdict(walk_now, told),
         reads: walk.map_or(0, |steps| steps.reads),
         core_reads: Count(work.reads),
-        agree: walk_now == told || matches!(told, Told::Nothing(_)),
+        agree: walk_now.agrees(told),
     }
 }
 

@@ -1,0 +1,2 @@
+-- What the contracts of `walk_report` cite.
+pub mod Told
