@@ -49,10 +49,10 @@ impl Core {
     #[inline(never)]
     fn load_rest<W: Datum>(&mut self, ram: &Ram, va: u64) -> Result<u64, Stop> {
         let (core, answer) = (&mut self.core, &mut self.answer);
-        let number = if 3 < core.privilege.level || ends_late(ram) {
-            load::checked(core, va, W::WIDTH.bytes(), answer, ram.base, ram.bytes)
-        } else if place::in_page(va) < W::WIDTH.bytes() {
+        let number = if place::in_page(va) < W::WIDTH.bytes() {
             load::pages::<W>(core, va, answer, ram.base, ram.bytes)
+        } else if 3 < core.privilege.level || ends_late(ram) {
+            load::checked(core, va, W::WIDTH.bytes(), answer, ram.base, ram.bytes)
         } else {
             load::past_hint::<W>(core, va, answer, ram.base, ram.bytes)
         };
@@ -98,10 +98,10 @@ impl Core {
     #[inline(never)]
     fn store_rest<W: Datum>(&mut self, ram: &mut Ram, va: u64, value: u64) -> Result<(), Stop> {
         let (core, answer) = (&mut self.core, &mut self.answer);
-        let number = if 3 < core.privilege.level || ends_late(ram) {
-            store::checked(core, va, W::WIDTH.bytes(), value, answer, ram.base, ram.bytes)
-        } else if place::in_page(va) < W::WIDTH.bytes() {
+        let number = if place::in_page(va) < W::WIDTH.bytes() {
             store::pages::<W>(core, va, value, answer, ram.base, ram.bytes)
+        } else if 3 < core.privilege.level || ends_late(ram) {
+            store::checked(core, va, W::WIDTH.bytes(), value, answer, ram.base, ram.bytes)
         } else {
             store::past_hint::<W>(core, va, value, answer, ram.base, ram.bytes)
         };

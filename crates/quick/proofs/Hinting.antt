@@ -3,11 +3,11 @@ use Rattle.std.specs.Prelude.{if◌then◌else◌, ◌≡◌, ◌+◌, ◌-◌, 
 use Rattle.std.specs.Prelude.{List, length, Option, Some, None, Result, Ok, Err, slice_index_or}
 use Rattle.std.specs.Bool.{then_some}
 use Rattle.std.proofs.Common.{refl, sym, ap, ◌∙◌, arith, subst, eqb-true, le-leb, leb-true}
-use Rattle.std.proofs.lemmas.Bool.{lt-leb}
+use Rattle.std.proofs.lemmas.Bool.{lt-leb, ne_eqb}
 use mir.Val.{bool_byte}
-use Rattle.tlb.specs.Hint.{place_of, data_slot, on_page, no_hint}
+use Rattle.tlb.specs.Hint.{place_of, data_slot, page_of, on_page, no_hint, fetch_found}
 use Rattle.tlb.specs.declared.access.Kind.TheVariants.{Read, Write}
-use Rattle.tlb.specs.declared.{access.Kind.Kind, access.NoSuchKind.NoSuchKind, hint.Hint.Hint}
+use Rattle.tlb.specs.declared.{access.Kind.Kind, access.NoSuchKind.NoSuchKind, hint.Hint.Hint, hint.FetchHint.FetchHint}
 use Rattle.cpu.specs.declared.Core.{Core}
 use Rattle.tlb.specs.Translate.{hint_in}
 use Rattle.word.specs.Ram.{word_at}
@@ -20,7 +20,7 @@ use Rattle.tlb.specs.Work.{no_work}
 use Rattle.cpu.specs.declared.call.Reply.{Reply}
 use Rattle.call_words.specs.Replies.{code_by, value_by, reads_by}
 use Rattle.call_words.specs.declared.reply.Report.{Report}
-use Rattle.quick.specs.Says.{Says, Tells, unread, asked_reply, asked_run, ram_checked, plain, served}
+use Rattle.quick.specs.Says.{Says, Tells, unread, asked_reply, asked_run, ram_checked, plain, served, fetch_hint_of, fetch_served}
 use Rattle.quick.proofs.ByHint.{hint-moves, asked-told}
 use Rattle.quick.proofs.Checks.{ram-told, clear, translate-told, data-told}
 
@@ -116,10 +116,39 @@ module _ (c : Core) (va base len s : ℕ) (es : s ≡ data_slot va Read) where
   pub serves : (kind : ℕ) (h : Hint) (pa : ℕ) → h ≡ found kind → pa ≡ on_page h.pa va → by kind h pa ≡ served c base len va (kind_of kind)
   serves kind h pa eh ep = ap (by kind h) ep ∙ ap (λ (x : Hint). by kind x (on_page x.pa va)) eh ∙ reads kind (eqb kind 1) refl
 
--- WHAT WAS NOT SERVED
+-- THE FETCH HINT
 module _ (c : Core) (va base len : ℕ) where
-  pub unserved : (k : Kind) → c.privilege.level < 4 → base ≤ 2 ^ 64 - 1 - len → served c base len va (Ok k) ≡ None → hint_in c.privilege va k c.tlb ≡ None
-  unserved k low fits h =
+  abbrev fetch_fits : Bool
+  fetch_fits = leb base (2 ^ 64 - 1 - len)
+
+  abbrev fetch_by : FetchHint → ℕ → Option ℕ
+  fetch_by f pa = then_some ((eqb f.page (va - va % 4096) && eqb f.level c.privilege.level) && (leb c.privilege.level 3 && fetch_fits)) pa
+
+  abbrev fetch_meant : Option FetchHint → Option ℕ
+  fetch_meant h = if plain c base len then fetch_found h c.privilege.level va else None
+
+  -- an address's page is no odd number
+  no-page : eqb 1 (page_of va) ≡ false
+  no-page = ne_eqb 1 (page_of va) (λ e. let odd : 1 ≡ va / 4096 * 4096 = e in omega (arith, odd))
+
+  fetch-by-page : (h : Option FetchHint) → fetch_by (fetch_hint_of h) (on_page (fetch_hint_of h).pa va) ≡ fetch_meant h
+  fetch-by-page (Some f) =
+      let page : va - va % 4096 ≡ page_of va = omega arith in
+      ap (λ (p : ℕ). then_some ((eqb f.page p && eqb f.level c.privilege.level) && (leb c.privilege.level 3 && fetch_fits)) (on_page f.pa va)) page
+      ∙ all (leb c.privilege.level 3) fetch_fits (eqb f.page (page_of va) && eqb f.level c.privilege.level) (on_page f.pa va)
+  fetch-by-page None =
+      let page : va - va % 4096 ≡ page_of va = omega arith in
+      let not_one : eqb 1 (va - va % 4096) ≡ false = ap (eqb 1) page ∙ no-page in
+      ap (λ (b : Bool). then_some ((b && eqb 0 c.privilege.level) && (leb c.privilege.level 3 && fetch_fits)) (on_page 0 va)) not_one
+      ∙ sym (never (plain c base len))
+
+  pub fetch-asked : (f : FetchHint) (pa : ℕ) → f ≡ fetch_hint_of c.tlb.fetch → pa ≡ on_page f.pa va → fetch_by f pa ≡ fetch_served c base len va
+  fetch-asked f pa ef ep = ap (fetch_by f) ep ∙ ap (λ (g : FetchHint). fetch_by g (on_page g.pa va)) ef ∙ fetch-by-page c.tlb.fetch
+
+-- WHAT WAS NOT SERVED
+module _ (c : Core) (base len : ℕ) (x : Option ℕ) where
+  pub unserved : c.privilege.level < 4 → base ≤ 2 ^ 64 - 1 - len → (if plain c base len then x else None) ≡ None → x ≡ None
+  unserved low fits h =
       let level : nat_le c.privilege.level 3 ≡ true = le-leb c.privilege.level 3 (omega (arith, low)) in
       let window : nat_le base (2 ^ 64 - 1 - len) ≡ true = le-leb base (2 ^ 64 - 1 - len) fits in
       sym (rw (level, window) refl) ∙ h
@@ -134,6 +163,13 @@ split true true x pa e = (refl, refl, e)
 split true false x pa e = absurd (subst is_at (sym e) tt)
 split false b x pa e = absurd (subst is_at (sym e) tt)
 
+pub plainly : (c : Core) (base len : ℕ) (x : Option ℕ) (pa : ℕ) → (if plain c base len then x else None) ≡ Some pa
+    → (c.privilege.level < 4) × (base ≤ 2 ^ 64 - 1 - len) × (x ≡ Some pa)
+plainly c base len x pa e =
+    let s = split (nat_le c.privilege.level 3) (nat_le base (2 ^ 64 - 1 - len)) x pa e in
+    let level : c.privilege.level ≤ 3 = leb-true c.privilege.level 3 s.0 in
+    (omega (arith, level), leb-true base (2 ^ 64 - 1 - len) s.1, s.2)
+
 module _ (c : Core) (base : ℕ) (ram : List ℕ) (va : ℕ) (long : length ram < 2 ^ 64) where
   abbrev memory : ℕ → Option ℕ
   memory = word_at base ram 8
@@ -145,11 +181,8 @@ module _ (c : Core) (base : ℕ) (ram : List ℕ) (va : ℕ) (long : length ram 
       → Tells (ram_checked c base ram (asked_run b va (translate_of c memory va k))) (translate_work c memory va k no_work) old
       (code_by (asked_reply b va (Ok pa))) (report (asked_reply b va (Ok pa)) old) c
   told k pa e b old =
-      let s = split (nat_le c.privilege.level 3) (nat_le base (2 ^ 64 - 1 - length ram)) (hint_in c.privilege va k c.tlb) pa e in
-      let level : c.privilege.level ≤ 3 = leb-true c.privilege.level 3 s.0 in
-      let low : c.privilege.level < 4 = omega (arith, level) in
-      let fits : base ≤ 2 ^ 64 - 1 - length ram = leb-true base (2 ^ 64 - 1 - length ram) s.1 in
-      ram-told c base ram _ _ (clear c base ram low long fits) _ _ _ _
+      let s = plainly c base (length ram) (hint_in c.privilege va k c.tlb) pa e in
+      ram-told c base ram _ _ (clear c base ram s.0 long s.1) _ _ _ _
       (asked-told c memory va k c (Ok pa) no_work b (hint-moves c memory va k pa no_work s.2 refl) old _
       (report (asked_reply b va (Ok pa)) old) (refl, refl, refl))
 

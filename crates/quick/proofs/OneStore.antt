@@ -1,5 +1,5 @@
 -- A store of one page, by its one translation, and of two by their hints, on plain values.
-use Rattle.std.specs.Prelude.{if◌then◌else◌, ◌≡◌, length, Bool, true, false, ◌+◌, ◌^◌, ◌<◌, ◌≤◌, List, ℕ, Option, Some, Ok, Err}
+use Rattle.std.specs.Prelude.{if◌then◌else◌, ◌≡◌, length, Bool, true, false, ◌+◌, ◌-◌, ◌^◌, ◌<◌, ◌≤◌, List, ℕ, Option, Some, Ok, Err}
 use Rattle.std.proofs.Common.{refl, sym, ap, ◌∙◌, arith, subst}
 use native.Mathlib.Nat.{mod-eq_of_lt}
 use Rattle.word.specs.Bits.{wrap}
@@ -149,16 +149,20 @@ module _ (c : Core) (base : ℕ) (ram : List ℕ) (va n pa pa2 : ℕ) where
           ∙ sym (ap (λ (a : Located). store_ram_end a.placed base ram n v) located-two)
 
       -- by the one test
-      pub put-two : (v : ℕ) (f : Bool) (ys : List ℕ) → f ≡ both_inside base (length ram) pages n → ys ≡ both_stored base ram pages n v
+      pub put-two : c.privilege.level < 4 → base ≤ 2 ^ 64 - 1 - length ram → (v : ℕ) (f : Bool) (ys : List ℕ) → f ≡ both_inside base (length ram) pages n → ys ≡ both_stored base ram pages n v
           → PutTwo c base ram va n v f ys
       unfolding both_stored
-      put-two v true ys ef ey = (two-write (sym ef), two-read-none c memory va n Write pa pa2 k h h2, ey ∙ two-put v (sym ef))
-      put-two v false ys ef ey = ey ∙ rw (← ef) refl
+      put-two low fits v true ys ef ey = (low, fits, two-write (sym ef), two-read-none c memory va n Write pa pa2 k h h2, ey ∙ two-put v (sym ef))
+      put-two low fits v false ys ef ey = ey ∙ rw (← ef) refl
 
 -- a store that was made
 pub made : (c : Core) (base : ℕ) (ram : List ℕ) (va n v : ℕ) (f : Bool) (ys : List ℕ) → f ≡ true → PutTwo c base ram va n v f ys
     → PutTwo c base ram va n v true ys
 made c base ram va n v f ys e p = subst (λ (b : Bool). PutTwo c base ram va n v b ys) e p
+
+-- a store that was not
+pub kept : (c : Core) (base : ℕ) (ram : List ℕ) (va n v : ℕ) (f : Bool) (ys : List ℕ) → f ≡ false → PutTwo c base ram va n v f ys → ys ≡ ram
+kept c base ram va n v f ys e p = subst (λ (b : Bool). PutTwo c base ram va n v b ys) e p
 
 -- two bytes, one in each page
 pub pair-is : (p : Pages) (w : Width) → w ≡ Half → 0 < p.in_page → p.in_page < bytes_in w → p ≡ pair_at p.pa p.pa2

@@ -1,14 +1,15 @@
 -- What a call on a core says: its number, its report, and the core that it leaves.
-use Rattle.std.specs.Prelude.{if◌then◌else◌, ◌≡◌, ◌-◌, ◌^◌, ◌&&◌, nat_le, Bool, true, false, List, ℕ, length, Option, Some, None, Result, Ok, Err}
+use Rattle.std.specs.Prelude.{if◌then◌else◌, ◌≡◌, ◌-◌, ◌^◌, ◌<◌, ◌≤◌, ◌&&◌, nat_le, Bool, true, false, List, ℕ, length, Option, Some, None, Result, Ok, Err}
 use Rattle.cpu.specs.declared.Core.{Core}
 use Rattle.word.specs.Ram.{word_at}
 use Rattle.cpu.specs.Memory.{with_tlb, loaded_by, read_of, stored_by, write_of, ram_after_write, fetched_by, fetch_of, fetch_pa_of}
 use Rattle.cpu.specs.Results.{Translated, Loaded, Stored, Fetched, Addressed}
 use Rattle.tlb.specs.Answers.{Answer}
+use Rattle.tlb.specs.Hint.{fetch_found}
 use Rattle.tlb.specs.Translate.{fetch_left, hint_in}
 use Rattle.cpu.specs.Place.{placed_one}
 use Rattle.cpu.specs.Ends.{load_end, store_end, store_ram_end, fetch_end, reached_by}
-use Rattle.tlb.specs.declared.access.{Kind.Kind, NoSuchKind.NoSuchKind}
+use Rattle.tlb.specs.declared.{access.Kind.Kind, access.NoSuchKind.NoSuchKind, hint.FetchHint.FetchHint}
 use Rattle.cpu.specs.System.{done_with, zero_of, zero_ram}
 use Rattle.cpu.specs.Check.{first_of, ram_rows}
 use Rattle.cpu.specs.Replies.{translation, reaching}
@@ -60,7 +61,7 @@ asked_reply false va a = reaching (reached_by a)
 abbrev pub asked_run : Bool → ℕ → Translated → Stepped
 asked_run tells va t = ends t.core (asked_reply tells va t.answer)
 
--- AT ONCE BY THE DATA HINT: at a known level, with a window that ends at the last address or before
+-- AT ONCE BY A HINT: at a known level, with a window that ends at the last address or before
 
 abbrev pub plain : Core → ℕ → ℕ → Bool
 plain c base len = nat_le c.privilege.level 3 && nat_le base (2 ^ 64 - 1 - len)
@@ -68,6 +69,14 @@ plain c base len = nat_le c.privilege.level 3 && nat_le base (2 ^ 64 - 1 - len)
 abbrev pub served : Core → ℕ → ℕ → ℕ → Result Kind NoSuchKind → Option ℕ
 served c base len va (Ok k) = if plain c base len then hint_in c.privilege va k c.tlb else None
 served c base len va (Err e) = None
+
+-- the fetch hint, or one of a page that is no address's
+abbrev pub fetch_hint_of : Option FetchHint → FetchHint
+fetch_hint_of (Some f) = f
+fetch_hint_of None = record { page = 1; level = 0; pa = 0 }
+
+abbrev pub fetch_served : Core → ℕ → ℕ → ℕ → Option ℕ
+fetch_served c base len va = if plain c base len then fetch_found c.tlb.fetch c.privilege.level va else None
 
 -- AN ACCESS OF ONE PAGE, on the core that its translation left
 
@@ -99,19 +108,21 @@ fetch_ended false d a base ram va = after_address (reached_of d a)
 abbrev pub hint_left : Core → ℕ → Answer → Core
 hint_left d va a = with_tlb d (fetch_left d.privilege.level va a d.tlb)
 
--- AN ACCESS OF TWO PAGES by their hints: it reads no descriptor
+-- AN ACCESS OF TWO PAGES by their hints: no check is missed, and it reads no descriptor
 
 -- the first byte's place and the value of a load
 abbrev pub OfTwo : Core → ℕ → List ℕ → ℕ → ℕ → Option (ℕ × ℕ) → Type 0
 OfTwo c base ram va n (Some x) =
-    (record { core = record c { last_pa = x.0 }; answer = Ok x.1 } ≡ read_of c base ram va n)
+    (c.privilege.level < 4) × (base ≤ 2 ^ 64 - 1 - length ram)
+    × (record { core = record c { last_pa = x.0 }; answer = Ok x.1 } ≡ read_of c base ram va n)
     × (no_work ≡ read_work c base ram va n no_work)
 OfTwo c base ram va n None = Unit {0}
 
 -- whether a store is made, and the bytes after it
 abbrev pub PutTwo : Core → ℕ → List ℕ → ℕ → ℕ → ℕ → Bool → List ℕ → Type 0
 PutTwo c base ram va n v true ys =
-    (record { core = c; answer = Ok tt } ≡ write_of c base ram va n)
+    (c.privilege.level < 4) × (base ≤ 2 ^ 64 - 1 - length ram)
+    × (record { core = c; answer = Ok tt } ≡ write_of c base ram va n)
     × (no_work ≡ write_work c base ram va n no_work)
     × (ys ≡ ram_after_write c base ram va n v)
 PutTwo c base ram va n v false ys = ys ≡ ram

@@ -1,6 +1,6 @@
 // A fetch on a core that is lent, and where one goes: the number, and in ans the instruction or the address, and what
 // was read. Both are one text: INSN says whether the instruction is read.
-ghost use Rattle.std.specs.Prelude.{◌≡◌, None};
+ghost use Rattle.std.specs.Prelude.{◌≡◌, true, false, length, None};
 ghost use Rattle.word.specs.Ram.{word_at};
 ghost use Rattle.tlb.specs.Hint.{fetch_found};
 ghost use Rattle.tlb.specs.Work.{no_work};
@@ -10,8 +10,9 @@ ghost use Rattle.cpu.specs.Hand.{NeedsWalkNow};
 ghost use Rattle.cpu.specs.Step.{step_of, after_fetch};
 ghost use Rattle.cpu.specs.Work.{fetch_work, step_work};
 ghost use Rattle.quick.specs.Says.{Tells, fetched_of, hint_left, ram_checked, fetch_run, fetch_ended};
+ghost use Rattle.quick.specs.Says.{fetch_served};
 
-use crate::translation;
+use crate::{hint, translation};
 use call_words::reply::Report;
 use cpu::{Core, bytes, check};
 use fault::Fault;
@@ -98,8 +99,9 @@ fn by_walk<const INSN: bool>(
     ended::<INSN>(core, va, answer, work, ans, base, ram)
 }
 
-#[inline(never)]
-fn past_hint<const INSN: bool>(
+// What is at hand, or a walk.
+#[inline(always)]
+fn by_entry<const INSN: bool>(
     core: &mut Core,
     va: u64,
     ans: &mut Report,
@@ -117,6 +119,21 @@ fn past_hint<const INSN: bool>(
         }
         None => by_walk::<INSN>(core, va, ans, base, ram),
     }
+}
+
+#[inline(never)]
+fn past_hint<const INSN: bool>(
+    core: &mut Core,
+    va: u64,
+    ans: &mut Report,
+    base: u64,
+    ram: &[u8],
+) -> u64
+    requires no_hint { fetch_found core.old.tlb.fetch core.old.privilege.level va ≡ None }
+    ensures { Tells (fetch_run INSN core.old base ram.now va)
+        (fetch_work core.old (word_at base ram.now 8) va no_work) ans.old result ans.new core.new }
+{
+    by_entry::<INSN>(core, va, ans, base, ram)
 }
 
 #[inline(always)]
@@ -156,16 +173,16 @@ fn checked<const INSN: bool>(
 }
 
 #[inline(always)]
-fn asked<const INSN: bool>(core: &mut Core, va: u64, ans: &mut Report, base: u64, ram: &[u8]) -> u64
-    ensures { Tells (ram_checked core.old base ram.now (fetch_run INSN core.old base ram.now va))
+fn asked(core: &mut Core, va: u64, ans: &mut Report, base: u64, ram: &[u8]) -> u64
+    ensures { Tells (ram_checked core.old base ram.now (fetch_run true core.old base ram.now va))
         (fetch_work core.old (word_at base ram.now 8) va no_work) ans.old result ans.new core.new }
 {
     if 3 < core.privilege.level {
-        checked::<INSN>(core, va, ans, base, ram)
+        checked::<true>(core, va, ans, base, ram)
     } else if u64::MAX - (ram.len() as u64) < base {
-        checked::<INSN>(core, va, ans, base, ram)
+        checked::<true>(core, va, ans, base, ram)
     } else {
-        by_hint::<INSN>(core, va, ans, base, ram)
+        by_hint::<true>(core, va, ans, base, ram)
     }
 }
 
@@ -174,7 +191,24 @@ pub fn fetch(core: &mut Core, va: u64, ans: &mut Report, base: u64, ram: &[u8]) 
     ensures { Tells (step_of core.old base ram.now (Call.Fetch va))
         (step_work core.old base ram.now (Call.Fetch va) no_work) ans.old result ans.new core.new }
 {
-    asked::<true>(core, va, ans, base, ram)
+    asked(core, va, ans, base, ram)
+}
+
+// Where a fetch goes that is not served at once: the level, the window, and past the hint. Its arguments are those of
+// the call in their order, so that it is jumped to.
+#[inline(never)]
+fn rest(core: &mut Core, va: u64, ans: &mut Report, base: u64, ram: &[u8]) -> u64
+    requires not_served { fetch_served core.old base (length ram.now) va ≡ None }
+    ensures { Tells (ram_checked core.old base ram.now (fetch_run false core.old base ram.now va))
+        (fetch_work core.old (word_at base ram.now 8) va no_work) ans.old result ans.new core.new }
+{
+    if 3 < core.privilege.level {
+        checked::<false>(core, va, ans, base, ram)
+    } else if u64::MAX - (ram.len() as u64) < base {
+        checked::<false>(core, va, ans, base, ram)
+    } else {
+        by_entry::<false>(core, va, ans, base, ram)
+    }
 }
 
 /// Where a fetch of va goes, by the same hint, which a new page refreshes.
@@ -182,5 +216,8 @@ pub fn fetch_pa(core: &mut Core, va: u64, ans: &mut Report, base: u64, ram: &[u8
     ensures { Tells (step_of core.old base ram.now (Call.FetchPa va))
         (step_work core.old base ram.now (Call.FetchPa va) no_work) ans.old result ans.new core.new }
 {
-    asked::<false>(core, va, ans, base, ram)
+    match hint::fetch_served(core, va, base, ram.len() as u64) {
+        Some(pa) => ended::<false>(core, va, Ok(pa), Work::none(), ans, base, ram),
+        None => rest(core, va, ans, base, ram),
+    }
 }

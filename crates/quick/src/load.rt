@@ -48,18 +48,34 @@ fn checked(core: &mut Core, va: u64, size: u64, ans: &mut Report, base: u64, ram
     }
 }
 
+// The same of a width, with six words to hand on.
+#[cold]
+#[inline(never)]
+fn checked_as<W: Datum>(core: &mut Core, va: u64, ans: &mut Report, base: u64, ram: &[u8]) -> u64
+    ensures { Tells (step_of core.old base ram.now (Call.Load va (bytes_in W.WIDTH)))
+        (step_work core.old base ram.now (Call.Load va (bytes_in W.WIDTH)) no_work) ans.old result ans.new core.new }
+{
+    checked(core, va, W::WIDTH.bytes(), ans, base, ram)
+}
+
 // Two pages: at once by both hints, or by the core's own load.
 #[inline(never)]
 fn pages<W: Datum>(core: &mut Core, va: u64, ans: &mut Report, base: u64, ram: &[u8]) -> u64
-    ensures { Tells (after_load (read_of core.old base ram.now va (bytes_in W.WIDTH)))
-        (read_work core.old base ram.now va (bytes_in W.WIDTH) no_work) ans.old result ans.new core.new }
+    ensures { Tells (step_of core.old base ram.now (Call.Load va (bytes_in W.WIDTH)))
+        (step_work core.old base ram.now (Call.Load va (bytes_in W.WIDTH)) no_work) ans.old result ans.new core.new }
 {
     if let Some((first, v)) = split::load(core, va, W::WIDTH, base, ram) {
         core.last_pa = first;
         *ans = Report { value: v, reads: 0 };
         return 0;
     }
-    own(core, va, W::WIDTH, ans, base, ram)
+    if 3 < core.privilege.level {
+        checked_as::<W>(core, va, ans, base, ram)
+    } else if u64::MAX - (ram.len() as u64) < base {
+        checked_as::<W>(core, va, ans, base, ram)
+    } else {
+        own(core, va, W::WIDTH, ans, base, ram)
+    }
 }
 
 // The end of a load of one page, after its translation.
@@ -128,12 +144,10 @@ fn past_hint<W: Datum>(core: &mut Core, va: u64, ans: &mut Report, base: u64, ra
 
 #[inline(always)]
 fn by_hint<W: Datum>(core: &mut Core, va: u64, ans: &mut Report, base: u64, ram: &[u8]) -> u64
+    requires near { bytes_in W.WIDTH ≤ in_page va }
     ensures { Tells (after_load (read_of core.old base ram.now va (bytes_in W.WIDTH)))
         (read_work core.old base ram.now va (bytes_in W.WIDTH) no_work) ans.old result ans.new core.new }
 {
-    if place::in_page(va) < W::WIDTH.bytes() {
-        return pages::<W>(core, va, ans, base, ram);
-    }
     match core.tlb.by_hint(core.privilege, va, Kind::Read) {
         Some(pa) => ended::<W>(core, va, Ok(pa), Work::none(), ans, base, ram),
         None => past_hint::<W>(core, va, ans, base, ram),
@@ -145,7 +159,9 @@ fn load_as<W: Datum>(core: &mut Core, va: u64, ans: &mut Report, base: u64, ram:
     ensures { Tells (step_of core.old base ram.now (Call.Load va (bytes_in W.WIDTH)))
         (step_work core.old base ram.now (Call.Load va (bytes_in W.WIDTH)) no_work) ans.old result ans.new core.new }
 {
-    if 3 < core.privilege.level {
+    if place::in_page(va) < W::WIDTH.bytes() {
+        pages::<W>(core, va, ans, base, ram)
+    } else if 3 < core.privilege.level {
         checked(core, va, W::WIDTH.bytes(), ans, base, ram)
     } else if u64::MAX - (ram.len() as u64) < base {
         checked(core, va, W::WIDTH.bytes(), ans, base, ram)

@@ -1,13 +1,12 @@
-// Loads and stores over two pages whose hints both serve and whose bytes lie in RAM.
+// Loads and stores over two pages whose hints both serve and whose bytes lie in RAM, where no check is missed.
 ghost use Rattle.std.specs.Prelude.{◌≡◌, ◌<◌, length};
 ghost use Rattle.word.specs.Ram.{bytes_in};
 ghost use Rattle.quick.specs.AtOnce.{both_inside, both_stored};
 ghost use Rattle.quick.specs.Says.{OfTwo, PutTwo};
 
-use crate::at_once;
+use crate::{at_once, hint};
 use cpu::place::Pages;
 use cpu::{Core, place};
-use tlb::access::Kind;
 use word::ram::Width;
 
 // The value of a load over two pages whose hints both serve and whose bytes lie in RAM, and where its first byte lies.
@@ -17,9 +16,10 @@ pub(crate) fn load(core: &Core, va: u64, width: Width, base: u64, ram: &[u8]) ->
 {
     let on = core.bank().stage1_on(core.regime());
     if place::crosses(on, va, width.bytes()) {
-        if let Some(pa) = core.tlb.by_hint(core.privilege, va, Kind::Read) {
+        let len = ram.len() as u64;
+        if let Some(pa) = hint::served(core, va, 1, base, len) {
             let next = place::next_page(va);
-            if let Some(pa2) = core.tlb.by_hint(core.privilege, next, Kind::Read) {
+            if let Some(pa2) = hint::served(core, next, 1, base, len) {
                 let in_page = place::in_page(va);
                 if let Some(v) = at_once::read_both(
                     base,
@@ -69,9 +69,10 @@ pub(crate) fn store(
 {
     let on = core.bank().stage1_on(core.regime());
     if place::crosses(on, va, width.bytes()) {
-        if let Some(pa) = core.tlb.by_hint(core.privilege, va, Kind::Write) {
+        let len = ram.len() as u64;
+        if let Some(pa) = hint::served(core, va, 2, base, len) {
             let next = place::next_page(va);
-            if let Some(pa2) = core.tlb.by_hint(core.privilege, next, Kind::Write) {
+            if let Some(pa2) = hint::served(core, next, 2, base, len) {
                 let in_page = place::in_page(va);
                 return put_both(base, ram, Pages { in_page, pa, pa2 }, width, value);
             }

@@ -65,6 +65,25 @@ fn checked(
     }
 }
 
+// The same of a width, with seven words to hand on.
+#[cold]
+#[inline(never)]
+fn checked_as<W: Datum>(
+    core: &mut Core,
+    va: u64,
+    value: u64,
+    ans: &mut Report,
+    base: u64,
+    ram: &mut [u8],
+) -> u64
+    ensures tells { Tells (step_of core.old base ram.old (Call.Store va (bytes_in W.WIDTH) value))
+        (step_work core.old base ram.old (Call.Store va (bytes_in W.WIDTH) value) no_work)
+        ans.old result ans.new core.new }
+    ensures ram { ram.new ≡ ram_after core.old base ram.old (Call.Store va (bytes_in W.WIDTH) value) }
+{
+    checked(core, va, W::WIDTH.bytes(), value, ans, base, ram)
+}
+
 // Two pages: at once by both hints, or by the core's own store.
 #[inline(never)]
 fn pages<W: Datum>(
@@ -75,15 +94,22 @@ fn pages<W: Datum>(
     base: u64,
     ram: &mut [u8],
 ) -> u64
-    ensures tells { Tells (after_store (write_of core.old base ram.old va (bytes_in W.WIDTH)))
-        (write_work core.old base ram.old va (bytes_in W.WIDTH) no_work) ans.old result ans.new core.new }
-    ensures ram { ram.new ≡ ram_after_write core.old base ram.old va (bytes_in W.WIDTH) value }
+    ensures tells { Tells (step_of core.old base ram.old (Call.Store va (bytes_in W.WIDTH) value))
+        (step_work core.old base ram.old (Call.Store va (bytes_in W.WIDTH) value) no_work)
+        ans.old result ans.new core.new }
+    ensures ram { ram.new ≡ ram_after core.old base ram.old (Call.Store va (bytes_in W.WIDTH) value) }
 {
     if split::store(core, va, W::WIDTH, value, base, ram) {
         ans.reads = 0;
         return 0;
     }
-    own(core, va, W::WIDTH, value, ans, base, ram)
+    if 3 < core.privilege.level {
+        checked_as::<W>(core, va, value, ans, base, ram)
+    } else if u64::MAX - (ram.len() as u64) < base {
+        checked_as::<W>(core, va, value, ans, base, ram)
+    } else {
+        own(core, va, W::WIDTH, value, ans, base, ram)
+    }
 }
 
 // The end of a store of one page, after its translation.
@@ -172,13 +198,11 @@ fn by_hint<W: Datum>(
     base: u64,
     ram: &mut [u8],
 ) -> u64
+    requires near { bytes_in W.WIDTH ≤ in_page va }
     ensures tells { Tells (after_store (write_of core.old base ram.old va (bytes_in W.WIDTH)))
         (write_work core.old base ram.old va (bytes_in W.WIDTH) no_work) ans.old result ans.new core.new }
     ensures ram { ram.new ≡ ram_after_write core.old base ram.old va (bytes_in W.WIDTH) value }
 {
-    if place::in_page(va) < W::WIDTH.bytes() {
-        return pages::<W>(core, va, value, ans, base, ram);
-    }
     match core.tlb.by_hint(core.privilege, va, Kind::Write) {
         Some(pa) => ended::<W>(core, va, Ok(pa), Work::none(), value, ans, base, ram),
         None => past_hint::<W>(core, va, value, ans, base, ram),
@@ -199,7 +223,9 @@ fn store_as<W: Datum>(
         ans.old result ans.new core.new }
     ensures ram { ram.new ≡ ram_after core.old base ram.old (Call.Store va (bytes_in W.WIDTH) value) }
 {
-    if 3 < core.privilege.level {
+    if place::in_page(va) < W::WIDTH.bytes() {
+        pages::<W>(core, va, value, ans, base, ram)
+    } else if 3 < core.privilege.level {
         checked(core, va, W::WIDTH.bytes(), value, ans, base, ram)
     } else if u64::MAX - (ram.len() as u64) < base {
         checked(core, va, W::WIDTH.bytes(), value, ans, base, ram)

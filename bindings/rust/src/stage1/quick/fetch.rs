@@ -5,7 +5,7 @@
 use crate::stage1::call_words::reply::Report;
 use crate::stage1::cpu::{Core, bytes, check};
 use crate::stage1::fault::Fault;
-use crate::stage1::quick::translation;
+use crate::stage1::quick::{hint, translation};
 use crate::stage1::tlb::access::Kind;
 use crate::stage1::tlb::hint::FetchHint;
 use crate::stage1::tlb::work::Work;
@@ -71,6 +71,18 @@ fn by_walk<const INSN: bool>(core: &mut Core, va: u64, ans: &mut Report, base: u
     ended::<INSN>(core, va, answer, work, ans, base, ram)
 }
 
+/// What is at hand, or a walk.
+#[inline(always)]
+fn by_entry<const INSN: bool>(core: &mut Core, va: u64, ans: &mut Report, base: u64, ram: &[u8]) -> u64 {
+    match core.at_hand(base, ram, va, Kind::Fetch) {
+        Some(answer) => {
+            leave(core, va, answer);
+            ended::<INSN>(core, va, answer, Work::none(), ans, base, ram)
+        }
+        None => by_walk::<INSN>(core, va, ans, base, ram),
+    }
+}
+
 #[inline(always)]
 pub(crate) fn past_hint<const INSN: bool>(
     core: &mut Core,
@@ -79,13 +91,7 @@ pub(crate) fn past_hint<const INSN: bool>(
     base: u64,
     ram: &[u8],
 ) -> u64 {
-    match core.at_hand(base, ram, va, Kind::Fetch) {
-        Some(answer) => {
-            leave(core, va, answer);
-            ended::<INSN>(core, va, answer, Work::none(), ans, base, ram)
-        }
-        None => by_walk::<INSN>(core, va, ans, base, ram),
-    }
+    by_entry::<INSN>(core, va, ans, base, ram)
 }
 
 #[inline(always)]
@@ -113,24 +119,40 @@ pub(crate) fn checked<const INSN: bool>(
 }
 
 #[inline(always)]
-fn asked<const INSN: bool>(core: &mut Core, va: u64, ans: &mut Report, base: u64, ram: &[u8]) -> u64 {
+fn asked(core: &mut Core, va: u64, ans: &mut Report, base: u64, ram: &[u8]) -> u64 {
     if 3 < core.privilege.level {
-        checked::<INSN>(core, va, ans, base, ram)
+        checked::<true>(core, va, ans, base, ram)
     } else if u64::MAX - (ram.len() as u64) < base {
-        checked::<INSN>(core, va, ans, base, ram)
+        checked::<true>(core, va, ans, base, ram)
     } else {
-        by_hint::<INSN>(core, va, ans, base, ram)
+        by_hint::<true>(core, va, ans, base, ram)
     }
 }
 
 /// The instruction at va.
 #[inline]
 pub fn fetch(core: &mut Core, va: u64, ans: &mut Report, base: u64, ram: &[u8]) -> u64 {
-    asked::<true>(core, va, ans, base, ram)
+    asked(core, va, ans, base, ram)
+}
+
+/// Where a fetch goes that is not served at once: the level, the window, and past the hint. Its arguments are those of
+/// the call in their order, so that it is jumped to.
+#[inline(never)]
+fn rest(core: &mut Core, va: u64, ans: &mut Report, base: u64, ram: &[u8]) -> u64 {
+    if 3 < core.privilege.level {
+        checked::<false>(core, va, ans, base, ram)
+    } else if u64::MAX - (ram.len() as u64) < base {
+        checked::<false>(core, va, ans, base, ram)
+    } else {
+        by_entry::<false>(core, va, ans, base, ram)
+    }
 }
 
 /// Where a fetch of va goes, by the same hint, which a new page refreshes.
 #[inline]
 pub fn fetch_pa(core: &mut Core, va: u64, ans: &mut Report, base: u64, ram: &[u8]) -> u64 {
-    asked::<false>(core, va, ans, base, ram)
+    match hint::fetch_served(core, va, base, ram.len() as u64) {
+        Some(pa) => ended::<false>(core, va, Ok(pa), Work::none(), ans, base, ram),
+        None => rest(core, va, ans, base, ram),
+    }
 }

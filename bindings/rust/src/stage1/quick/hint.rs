@@ -1,11 +1,11 @@
 // Written by tools/plain from crates/quick/src/hint.rt: change that.
-//! Where the data hint sends an access at once. Kind, level, mark, window and key are one condition, so that few jumps
-//! are taken, and what only the rest of a call needs is laid out there.
+//! Where a hint sends an access at once. Kind, level, mark, window and key are one condition, so that few jumps are
+//! taken, and what only the rest of a call needs is laid out there.
 
 use crate::stage1::cpu::Core;
 use crate::stage1::tlb::access::Kind;
 use crate::stage1::tlb::hint;
-use crate::stage1::tlb::hint::Hint;
+use crate::stage1::tlb::hint::{FetchHint, Hint};
 
 #[inline(always)]
 fn hint_at(core: &Core, slot: usize) -> Hint {
@@ -21,5 +21,31 @@ pub(crate) fn served(core: &Core, va: u64, kind: u64, base: u64, len: u64) -> Op
     let found = hint_at(core, slot);
     let serves = ((kind == 1) | (kind == 2))
         & ((found.key == va - va % 4096 + asker) & ((asker <= 3) & (base <= u64::MAX - len)));
+    serves.then_some(hint::on_page(found.pa, va))
+}
+
+/// Where there is no fetch hint: its page is no address's.
+const NO_FETCH_HINT: FetchHint = FetchHint {
+    page: 1,
+    level: 0,
+    pa: 0,
+};
+
+/// The fetch hint by its address, so that whether there is one takes no jump.
+#[inline(always)]
+fn fetch_hint(core: &Core) -> &FetchHint {
+    match &core.tlb.fetch {
+        Some(found) => found,
+        None => &NO_FETCH_HINT,
+    }
+}
+
+/// By the fetch hint: nothing where a check has to be asked by name.
+#[inline(always)]
+pub(crate) fn fetch_served(core: &Core, va: u64, base: u64, len: u64) -> Option<u64> {
+    let level = core.privilege.level;
+    let found = fetch_hint(core);
+    let serves =
+        ((found.page == va - va % 4096) & (found.level == level)) & ((level <= 3) & (base <= u64::MAX - len));
     serves.then_some(hint::on_page(found.pa, va))
 }

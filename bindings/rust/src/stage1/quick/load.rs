@@ -31,6 +31,13 @@ pub(crate) fn checked(core: &mut Core, va: u64, size: u64, ans: &mut Report, bas
     }
 }
 
+/// The same of a width, with six words to hand on.
+#[cold]
+#[inline(never)]
+fn checked_as<W: Datum>(core: &mut Core, va: u64, ans: &mut Report, base: u64, ram: &[u8]) -> u64 {
+    checked(core, va, W::WIDTH.bytes(), ans, base, ram)
+}
+
 /// Two pages: at once by both hints, or by the core's own load.
 #[inline(always)]
 pub(crate) fn pages<W: Datum>(core: &mut Core, va: u64, ans: &mut Report, base: u64, ram: &[u8]) -> u64 {
@@ -39,7 +46,13 @@ pub(crate) fn pages<W: Datum>(core: &mut Core, va: u64, ans: &mut Report, base: 
         *ans = Report { value: v, reads: 0 };
         return 0;
     }
-    own(core, va, W::WIDTH, ans, base, ram)
+    if 3 < core.privilege.level {
+        checked_as::<W>(core, va, ans, base, ram)
+    } else if u64::MAX - (ram.len() as u64) < base {
+        checked_as::<W>(core, va, ans, base, ram)
+    } else {
+        own(core, va, W::WIDTH, ans, base, ram)
+    }
 }
 
 /// The end of a load of one page, after its translation.
@@ -94,9 +107,6 @@ pub(crate) fn past_hint<W: Datum>(core: &mut Core, va: u64, ans: &mut Report, ba
 
 #[inline(always)]
 fn by_hint<W: Datum>(core: &mut Core, va: u64, ans: &mut Report, base: u64, ram: &[u8]) -> u64 {
-    if place::in_page(va) < W::WIDTH.bytes() {
-        return pages::<W>(core, va, ans, base, ram);
-    }
     match core.tlb.by_hint(core.privilege, va, Kind::Read) {
         Some(pa) => ended::<W>(core, va, Ok(pa), Work::none(), ans, base, ram),
         None => past_hint::<W>(core, va, ans, base, ram),
@@ -105,7 +115,9 @@ fn by_hint<W: Datum>(core: &mut Core, va: u64, ans: &mut Report, base: u64, ram:
 
 #[inline(always)]
 fn load_as<W: Datum>(core: &mut Core, va: u64, ans: &mut Report, base: u64, ram: &[u8]) -> u64 {
-    if 3 < core.privilege.level {
+    if place::in_page(va) < W::WIDTH.bytes() {
+        pages::<W>(core, va, ans, base, ram)
+    } else if 3 < core.privilege.level {
         checked(core, va, W::WIDTH.bytes(), ans, base, ram)
     } else if u64::MAX - (ram.len() as u64) < base {
         checked(core, va, W::WIDTH.bytes(), ans, base, ram)

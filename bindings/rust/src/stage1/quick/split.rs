@@ -1,10 +1,9 @@
 // Written by tools/plain from crates/quick/src/split.rt: change that.
-//! Loads and stores over two pages whose hints both serve and whose bytes lie in RAM.
+//! Loads and stores over two pages whose hints both serve and whose bytes lie in RAM, where no check is missed.
 
 use crate::stage1::cpu::place::Pages;
 use crate::stage1::cpu::{Core, place};
-use crate::stage1::quick::at_once;
-use crate::stage1::tlb::access::Kind;
+use crate::stage1::quick::{at_once, hint};
 use crate::stage1::word::ram::Width;
 
 /// The value of a load over two pages whose hints both serve and whose bytes lie in RAM, and where its first byte lies.
@@ -12,9 +11,10 @@ use crate::stage1::word::ram::Width;
 pub(crate) fn load(core: &Core, va: u64, width: Width, base: u64, ram: &[u8]) -> Option<(u64, u64)> {
     let on = core.bank().stage1_on(core.regime());
     if place::crosses(on, va, width.bytes()) {
-        if let Some(pa) = core.tlb.by_hint(core.privilege, va, Kind::Read) {
+        let len = ram.len() as u64;
+        if let Some(pa) = hint::served(core, va, 1, base, len) {
             let next = place::next_page(va);
-            if let Some(pa2) = core.tlb.by_hint(core.privilege, next, Kind::Read) {
+            if let Some(pa2) = hint::served(core, next, 1, base, len) {
                 let in_page = place::in_page(va);
                 if let Some(v) = at_once::read_both(base, ram, Pages { in_page, pa, pa2 }, width.bytes()) {
                     return Some((pa, v));
@@ -39,9 +39,10 @@ fn put_both(base: u64, ram: &mut [u8], p: Pages, width: Width, value: u64) -> bo
 pub(crate) fn store(core: &Core, va: u64, width: Width, value: u64, base: u64, ram: &mut [u8]) -> bool {
     let on = core.bank().stage1_on(core.regime());
     if place::crosses(on, va, width.bytes()) {
-        if let Some(pa) = core.tlb.by_hint(core.privilege, va, Kind::Write) {
+        let len = ram.len() as u64;
+        if let Some(pa) = hint::served(core, va, 2, base, len) {
             let next = place::next_page(va);
-            if let Some(pa2) = core.tlb.by_hint(core.privilege, next, Kind::Write) {
+            if let Some(pa2) = hint::served(core, next, 2, base, len) {
                 let in_page = place::in_page(va);
                 return put_both(base, ram, Pages { in_page, pa, pa2 }, width, value);
             }

@@ -46,6 +46,20 @@ pub(crate) fn checked(
     }
 }
 
+/// The same of a width, with seven words to hand on.
+#[cold]
+#[inline(never)]
+fn checked_as<W: Datum>(
+    core: &mut Core,
+    va: u64,
+    value: u64,
+    ans: &mut Report,
+    base: u64,
+    ram: &mut [u8],
+) -> u64 {
+    checked(core, va, W::WIDTH.bytes(), value, ans, base, ram)
+}
+
 /// Two pages: at once by both hints, or by the core's own store.
 #[inline(always)]
 pub(crate) fn pages<W: Datum>(
@@ -60,7 +74,13 @@ pub(crate) fn pages<W: Datum>(
         ans.reads = 0;
         return 0;
     }
-    own(core, va, W::WIDTH, value, ans, base, ram)
+    if 3 < core.privilege.level {
+        checked_as::<W>(core, va, value, ans, base, ram)
+    } else if u64::MAX - (ram.len() as u64) < base {
+        checked_as::<W>(core, va, value, ans, base, ram)
+    } else {
+        own(core, va, W::WIDTH, value, ans, base, ram)
+    }
 }
 
 /// The end of a store of one page, after its translation.
@@ -132,9 +152,6 @@ fn by_hint<W: Datum>(
     base: u64,
     ram: &mut [u8],
 ) -> u64 {
-    if place::in_page(va) < W::WIDTH.bytes() {
-        return pages::<W>(core, va, value, ans, base, ram);
-    }
     match core.tlb.by_hint(core.privilege, va, Kind::Write) {
         Some(pa) => ended::<W>(core, va, Ok(pa), Work::none(), value, ans, base, ram),
         None => past_hint::<W>(core, va, value, ans, base, ram),
@@ -150,7 +167,9 @@ fn store_as<W: Datum>(
     base: u64,
     ram: &mut [u8],
 ) -> u64 {
-    if 3 < core.privilege.level {
+    if place::in_page(va) < W::WIDTH.bytes() {
+        pages::<W>(core, va, value, ans, base, ram)
+    } else if 3 < core.privilege.level {
         checked(core, va, W::WIDTH.bytes(), value, ans, base, ram)
     } else if u64::MAX - (ram.len() as u64) < base {
         checked(core, va, W::WIDTH.bytes(), value, ans, base, ram)

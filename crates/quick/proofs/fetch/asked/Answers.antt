@@ -3,7 +3,7 @@ use Rattle.quick.proofs.Checks.{ram-told, clear}
 use Rattle.quick.proofs.fetch.asked.Goals as goal
 
 pub returns-else-ram-base : goal.returns-else-ram-base
-returns-else-ram-base g c =
+returns-else-ram-base c =
     let low : c.args.core.now.privilege.level < 4 = omega (arith, c.if-core-gt3.false) in
     let long : length c.args.ram.now < 2 ^ 64 = omega arith in
     let fits : c.args.base ≤ 2 ^ 64 - 1 - length c.args.ram.now = omega (arith, c.if-ram-base.false) in

@@ -7,7 +7,7 @@ pub past_hint-requires : goal.past_hint-requires
 past_hint-requires g c =
     let low : c.args.core.now.privilege.level < 4 = omega (arith, c.if-core-gt3.false) in
     let fits : c.args.base ≤ 2 ^ 64 - 1 - length c.args.ram.now = omega (arith, c.if-ram-base.false) in
-    record { no_hint = unserved c.args.core.now c.args.va c.args.base (length c.args.ram.now) g.P.Purpose.KIND low fits c.requires.not_served }
+    record { no_hint = unserved c.args.core.now c.args.base (length c.args.ram.now) _ low fits c.requires.not_served }
 
 pub returns-else-ram-base : goal.returns-else-ram-base
 returns-else-ram-base g c =

@@ -1,6 +1,6 @@
 use Rattle.quick.proofs.ByHint.{by-hand}
 use Rattle.quick.proofs.Fetching.{fetch-missed, told}
-use Rattle.quick.proofs.fetch.past_hint.Goals as goal
+use Rattle.quick.proofs.fetch.by_entry.Goals as goal
 
 pub returns-in-Some : goal.returns-in-Some
 returns-in-Some g c =
