@@ -4,70 +4,70 @@ use cpu::call::Call;
 use exception::kind::Exception;
 use std::fmt;
 
+// A line's name, then its words, each in hexadecimal.
+fn line<W: fmt::Write>(f: &mut fmt::Formatter<W>, name: &str, words: &[u64]) -> fmt::Result {
+    f.write_str(name)?;
+    for word in words {
+        write!(f, " {word:x}")?;
+    }
+    Ok(())
+}
+
 fn exception<W: fmt::Write>(f: &mut fmt::Formatter<W>, e: Exception) -> fmt::Result {
     match e {
         Exception::Undefined => f.write_str("und"),
-        Exception::Svc(imm) => write!(f, "svc {imm:x}"),
-        Exception::Hvc(imm) => write!(f, "hvc {imm:x}"),
-        Exception::Smc(imm) => write!(f, "smc {imm:x}"),
-        Exception::Brk(imm) => write!(f, "brk {imm:x}"),
-        Exception::DataAbort(a) => write!(
-            f,
-            "data {:x} {} {:x}",
-            a.addr,
-            u64::from(a.write),
-            a.fault.fsc
-        ),
-        Exception::InsnAbort(a) => write!(f, "insn {:x} {:x}", a.addr, a.fault.fsc),
+        Exception::Svc(imm) => line(f, "svc", &[u64::from(imm)]),
+        Exception::Hvc(imm) => line(f, "hvc", &[u64::from(imm)]),
+        Exception::Smc(imm) => line(f, "smc", &[u64::from(imm)]),
+        Exception::Brk(imm) => line(f, "brk", &[u64::from(imm)]),
+        Exception::DataAbort(a) => {
+            let fsc = u64::from(a.fault.fsc);
+            line(f, "data", &[a.addr, u64::from(a.write), fsc])
+        }
+        Exception::InsnAbort(a) => line(f, "insn", &[a.addr, u64::from(a.fault.fsc)]),
         Exception::PcAlignment => f.write_str("pca"),
     }
 }
 
 fn call<W: fmt::Write>(f: &mut fmt::Formatter<W>, call: Call) -> fmt::Result {
     match call {
-        Call::Translate(kind, va) => write!(f, "tr {} {:x}", u64::from(kind), va),
-        Call::DataPa(va) => write!(f, "dpa {va:x}"),
-        Call::FetchPa(va) => write!(f, "fpa {va:x}"),
-        Call::Load(va, size) => write!(f, "ld {va:x} {size:x}"),
-        Call::Store(va, size, value) => write!(f, "st {va:x} {size:x} {value:x}"),
-        Call::Fetch(va) => write!(f, "if {va:x}"),
-        Call::System(at) => write!(
-            f,
-            "sys {:x} {:x} {:x} {:x} {:x}",
-            at.op1, at.crn, at.crm, at.op2, at.rt
-        ),
-        Call::Register(key, value) => write!(f, "reg {key:x} {value:x}"),
-        Call::Level(level) => write!(f, "level {level:x}"),
-        Call::Mark(on) => write!(f, "mark {}", u64::from(on)),
-        Call::General(number, value) => write!(f, "x {number:x} {value:x}"),
+        Call::Translate(kind, va) => line(f, "tr", &[u64::from(kind), va]),
+        Call::DataPa(va) => line(f, "dpa", &[va]),
+        Call::FetchPa(va) => line(f, "fpa", &[va]),
+        Call::Load(va, size) => line(f, "ld", &[va, size]),
+        Call::Store(va, size, value) => line(f, "st", &[va, size, value]),
+        Call::Fetch(va) => line(f, "if", &[va]),
+        Call::System(at) => line(f, "sys", &[at.op1, at.crn, at.crm, at.op2, at.rt]),
+        Call::Register(key, value) => line(f, "reg", &[u64::from(key), value]),
+        Call::Level(level) => line(f, "level", &[level]),
+        Call::Mark(on) => line(f, "mark", &[u64::from(on)]),
+        Call::General(number, value) => line(f, "x", &[number, value]),
         Call::Abort(e) => {
             f.write_str("abort ")?;
             exception(f, e)
         }
-        Call::Census(first, pages) => write!(f, "census {first:x} {pages:x}"),
+        Call::Census(first, pages) => line(f, "census", &[first, pages]),
     }
 }
 
 fn leaf<W: fmt::Write>(f: &mut fmt::Formatter<W>, leaf: Leaf) -> fmt::Result {
     match leaf {
         Leaf::Asid => f.write_str("l-asid"),
-        Leaf::Stage1On(regime) => write!(f, "l-on {}", u64::from(regime)),
-        Leaf::Untag(regime, va) => write!(f, "l-untag {} {:x}", u64::from(regime), va),
-        Leaf::Walk(regime, va) => write!(f, "l-walk {} {:x}", u64::from(regime), va),
-        Leaf::PaBits(size) => write!(f, "l-bits {size:x}"),
-        Leaf::Permissions(bits) => write!(f, "l-perm {bits:x}"),
-        Leaf::Bank(key) => write!(f, "l-bank {key:x}"),
-        Leaf::Vector { from, to, spsel } => {
-            let spsel = u64::from(spsel);
-            write!(f, "l-vec {from:x} {to:x} {spsel}")
-        }
+        Leaf::Stage1On(regime) => line(f, "l-on", &[u64::from(regime)]),
+        Leaf::Untag(regime, va) => line(f, "l-untag", &[u64::from(regime), va]),
+        Leaf::Walk(regime, va) => line(f, "l-walk", &[u64::from(regime), va]),
+        Leaf::PaBits(size) => line(f, "l-bits", &[size]),
+        Leaf::Permissions(bits) => line(f, "l-perm", &[u64::from(bits)]),
+        Leaf::Bank(key) => line(f, "l-bank", &[u64::from(key)]),
+        Leaf::Vector { from, to, spsel } => line(f, "l-vec", &[from, to, u64::from(spsel)]),
         Leaf::Syndrome {
             from,
             to,
             pc,
             exception: e,
         } => {
-            write!(f, "l-syn {from:x} {to:x} {pc:x} ")?;
+            line(f, "l-syn", &[from, to, pc])?;
+            f.write_str(" ")?;
             exception(f, e)
         }
     }
@@ -75,11 +75,11 @@ fn leaf<W: fmt::Write>(f: &mut fmt::Formatter<W>, leaf: Leaf) -> fmt::Result {
 
 fn poke<W: fmt::Write>(f: &mut fmt::Formatter<W>, poke: Poke) -> fmt::Result {
     match poke {
-        Poke::Level(level) => write!(f, "p-level {level:x}"),
-        Poke::Pc(pc) => write!(f, "p-pc {pc:x}"),
-        Poke::Spsel(on) => write!(f, "p-spsel {}", u64::from(on)),
-        Poke::Generation(generation) => write!(f, "p-gen {generation:x}"),
-        Poke::Counters(value) => write!(f, "p-cnt {value:x}"),
+        Poke::Level(level) => line(f, "p-level", &[level]),
+        Poke::Pc(pc) => line(f, "p-pc", &[pc]),
+        Poke::Spsel(on) => line(f, "p-spsel", &[u64::from(on)]),
+        Poke::Generation(generation) => line(f, "p-gen", &[u64::from(generation)]),
+        Poke::Counters(value) => line(f, "p-cnt", &[value]),
         Poke::Broadcast => f.write_str("p-bc"),
     }
 }
@@ -96,16 +96,16 @@ impl fmt::Display for Operation {
 
 fn part<W: fmt::Write>(f: &mut fmt::Formatter<W>, part: Part) -> fmt::Result {
     match part {
-        Part::Word { place, value } => write!(f, "w-word {place:x} {value:x}"),
-        Part::Hint { slot, key, pa } => write!(f, "w-hint {slot:x} {key:x} {pa:x}"),
+        Part::Word { place, value } => line(f, "w-word", &[u64::from(place), value]),
+        Part::Hint { slot, key, pa } => line(f, "w-hint", &[u64::from(slot), key, pa]),
         Part::Entry {
             slot,
             tag,
             generation,
             bits,
             pa,
-        } => { write!(f, "w-entry {slot:x} {tag:x} {generation:x} {bits:x} {pa:x}") }
-        Part::FetchHint { page, level, pa } => write!(f, "w-fetch {page:x} {level:x} {pa:x}"),
+        } => line(f, "w-entry", &[u64::from(slot), tag, generation, bits, pa]),
+        Part::FetchHint { page, level, pa } => line(f, "w-fetch", &[page, u64::from(level), pa]),
     }
 }
 
@@ -113,9 +113,9 @@ impl fmt::Display for Setup {
     fn fmt<W: fmt::Write>(&self, f: &mut fmt::Formatter<W>) -> fmt::Result {
         match *self {
             Setup::Fresh => f.write_str("fresh"),
-            Setup::Window { base, len } => write!(f, "window {base:x} {len:x}"),
+            Setup::Window { base, len } => line(f, "window", &[base, len as u64]),
             Setup::Zero => f.write_str("zero"),
-            Setup::Write { addr, value } => write!(f, "poke {addr:x} {value:x}"),
+            Setup::Write { addr, value } => line(f, "poke", &[addr, value]),
             Setup::Part(p) => part(f, p),
         }
     }
@@ -126,7 +126,7 @@ impl fmt::Display for Line {
         match *self {
             Line::Operation(operation) => write!(f, "{operation}"),
             Line::Setup(setup) => write!(f, "{setup}"),
-            Line::Load(Load { addr, .. }) => write!(f, "load at {addr:x}"),
+            Line::Load(Load { addr, .. }) => line(f, "load at", &[addr]),
         }
     }
 }

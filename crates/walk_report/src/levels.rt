@@ -218,6 +218,20 @@ impl NotBegun {
     }
 }
 
+// Bits that some regimes have, each with its name.
+fn bits<W: fmt::Write>(
+    f: &mut fmt::Formatter<W>,
+    bits: [(&str, Option<u64>); 3],
+    of: &str,
+) -> fmt::Result {
+    for (name, bit) in bits {
+        if let Some(bit) = bit {
+            write!(f, " {name}{of}={bit}")?;
+        }
+    }
+    Ok(())
+}
+
 impl fmt::Display for Table {
     fn fmt<W: fmt::Write>(&self, f: &mut fmt::Formatter<W>) -> fmt::Result {
         write!(f, "table at {:x}  APTable={}", self.at.0, self.aptable)?;
@@ -226,40 +240,52 @@ impl fmt::Display for Table {
             ("UXN", self.uxntable),
             ("PXN", self.pxntable),
         ];
-        for (name, table) in each {
-            if let Some(bit) = table {
-                write!(f, " {name}Table={bit}")?;
-            }
-        }
+        bits(f, each, "Table")?;
         writeln!(f, " NSTable={}", self.nstable)
+    }
+}
+
+impl Mapped {
+    // What is said where the output lies outside RAM.
+    fn place(&self) -> &'static str {
+        if self.outside_ram { " outside RAM" } else { "" }
     }
 }
 
 impl fmt::Display for Mapped {
     fn fmt<W: fmt::Write>(&self, f: &mut fmt::Formatter<W>) -> fmt::Result {
-        write!(f, "{}, output {:x}", self.size, self.pa.0)?;
-        if self.outside_ram {
-            write!(f, " outside RAM")?;
-        }
-        write!(f, "\n           AttrIndx={} NS={}", self.attrindx, self.ns)?;
+        let Mapped {
+            size,
+            attrindx,
+            ns,
+            ap,
+            sh,
+            af,
+            ng,
+            ..
+        } = *self;
+        writeln!(f, "{size}, output {:x}{}", self.pa.0, self.place())?;
         write!(
             f,
-            " AP={} SH={} AF={} nG={}",
-            self.ap, self.sh, self.af, self.ng
+            "           AttrIndx={attrindx} NS={ns} AP={ap} SH={sh} AF={af} nG={ng}"
         )?;
-        for (name, right) in [("XN", self.xn), ("PXN", self.pxn), ("UXN", self.uxn)] {
-            if let Some(bit) = right {
-                write!(f, " {name}={bit}")?;
-            }
-        }
+        bits(
+            f,
+            [("XN", self.xn), ("PXN", self.pxn), ("UXN", self.uxn)],
+            "",
+        )?;
         writeln!(f)
     }
 }
 
 impl fmt::Display for Level {
     fn fmt<W: fmt::Write>(&self, f: &mut fmt::Formatter<W>) -> fmt::Result {
-        write!(f, "level {}    table {:x}", self.level, self.table.0)?;
-        write!(f, "[{:x}]  at {:x}  ", self.index.0, self.at.0)?;
+        let (table, index) = (self.table.0, self.index.0);
+        write!(
+            f,
+            "level {}    table {table:x}[{index:x}]  at {:x}  ",
+            self.level, self.at.0
+        )?;
         match self.descriptor {
             Some(desc) => write!(f, "{:016x}  ", desc.0)?,
             None => f.write_str("outside RAM  ")?,

@@ -205,10 +205,13 @@ impl fmt::Display for Registers {
     fn fmt<W: fmt::Write>(&self, f: &mut fmt::Formatter<W>) -> fmt::Result {
         match self {
             Registers::Shared(all) => {
-                write!(f, "{}{}", all.sctlr, all.tcr)?;
-                write!(f, "TTBR0      {}TTBR1      {}", all.ttbr0, all.ttbr1)?;
-                write!(f, "SCR.NS={} HCR.TGE={}", all.scr_ns, all.hcr_tge)?;
-                writeln!(f, " HCR.DC={}", all.hcr_dc)
+                let (ns, tge, dc) = (all.scr_ns, all.hcr_tge, all.hcr_dc);
+                write!(f, "{}{}TTBR0      {}", all.sctlr, all.tcr, all.ttbr0)?;
+                writeln!(
+                    f,
+                    "TTBR1      {}SCR.NS={ns} HCR.TGE={tge} HCR.DC={dc}",
+                    all.ttbr1
+                )
             }
             Registers::Single(all) => {
                 write!(f, "{}{}TTBR0      {}", all.sctlr, all.tcr, all.ttbr0)
