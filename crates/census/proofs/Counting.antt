@@ -29,10 +29,7 @@ module _ (s : Bank) (r : Regime) (memory : ℕ → Option ℕ) (first i : ℕ) (
 
 pub all-pages : (s : Bank) (r : Regime) (memory : ℕ → Option ℕ) (first i pages : ℕ) (counts : List ℕ) → counts ≡ census_of s r memory first i → i ≤ pages → pages ≤ i
     → counts ≡ census_of s r memory first pages
-all-pages s r memory first i pages counts e h k = e ∙ ap (census_of s r memory first) (same h k)
-  where
-    same : i ≤ pages → pages ≤ i → i ≡ pages
-    same a b = omega arith
+all-pages s r memory first i pages counts e h k = grind arith
 
 pub ruleset pages = (page_is, one-fits, page-more, all-pages)
 

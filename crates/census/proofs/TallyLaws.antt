@@ -2,7 +2,7 @@
 use Rattle.std.specs.Prelude.{◌≡◌, ℕ, zero, suc, ◌+◌, ◌<◌, ◌≤◌, Bool, true, false, set, ◌==◌, ◌≢◌, nat_eq, slice_index, slice_set}
 use Rattle.std.proofs.Math.Path.{refl, sym, ap}
 use Rattle.std.proofs.Common.{ap₂, ◌∙◌, not-suc-le-zero, le_of_suc-le-suc, arith}
-use borrow.Author.Tests.{eqb-true, eqb-false, eq-eqb, ne_eqb}
+use borrow.Author.Tests.{eqb-true, eq-eqb, ne_eqb}
 use Rattle.word.specs.Bits.{flag}
 use Rattle.word.specs.Tables.{table, table_at, table_same, table-set}
 use Rattle.census.specs.Tally.{how_many, total, named, tally}
@@ -14,8 +14,7 @@ plus-zero : (k : ℕ) → k + 0 ≡ k
 plus-zero k = omega arith
 
 flag_one : (b : Bool) → flag b 1 ≤ 1
-flag_one true = omega arith
-flag_one false = omega arith
+flag_one b = grind arith
 
 pub many-le : (p : ℕ → Bool) (n : ℕ) → how_many p n ≤ n
 unfolding how_many
@@ -25,18 +24,12 @@ many-le p (suc n) = let h = many-le p n in let k = flag_one (p n) in omega arith
 -- alike at every number
 pub many-same : (p q : ℕ → Bool) (n : ℕ) → ((i : ℕ) → p i ≡ q i) → how_many p n ≡ how_many q n
 unfolding how_many
-many-same p q zero h = refl
-many-same p q (suc n) h = ap₂ (λ (a : ℕ) (b : Bool). a + flag b 1) (many-same p q n h) (h n)
+many-same p q n h = grind arith
 
 pub many-none : (p : ℕ → Bool) (n : ℕ) → ((i : ℕ) → p i ≡ false) → how_many p n ≡ 0
 unfolding how_many
 many-none p zero h = refl
 many-none p (suc n) h = ap₂ (λ (a : ℕ) (b : Bool). a + flag b 1) (many-none p n h) (h n)
-
-pub many-all : (p : ℕ → Bool) (n : ℕ) → ((i : ℕ) → p i ≡ true) → how_many p n ≡ n
-unfolding how_many
-many-all p zero h = refl
-many-all p (suc n) h = ap₂ (λ (a : ℕ) (b : Bool). a + flag b 1) (many-all p n h) (h n) ∙ plus_one n
 
 -- those below n, and those of the next m
 pub many-joins : (p : ℕ → Bool) (n m : ℕ) → how_many p (n + m) ≡ how_many p n + how_many (λ i. p (n + i)) m
@@ -74,17 +67,10 @@ total-none (suc m) = plus_none (total (table m (λ j. 0))) ∙ total-none m
 
 -- a test of two numbers is that of both moved up alike
 pub shift-eqb : (k a b : ℕ) → (k + a == k + b) ≡ (a == b)
-shift-eqb k a b = go (a == b) refl
-  where
-    go : (x : Bool) → (a == b) ≡ x → (k + a == k + b) ≡ x
-    go true e = eq-eqb (k + a) (k + b) (ap (λ (n : ℕ). k + n) (eqb-true a b e))
-    go false e = ne_eqb (k + a) (k + b) (λ q. eqb-false a b e (omega arith))
+shift-eqb k a b = grind arith
 
 suc-eqb : (a b : ℕ) → (suc a == suc b) ≡ (a == b)
-suc-eqb a b = ap₂ (λ (m n : ℕ). nat_eq m n) (one-plus a) (one-plus b) ∙ shift-eqb 1 a b
-  where
-    one-plus : (n : ℕ) → suc n ≡ 1 + n
-    one-plus n = omega arith
+suc-eqb a b = grind arith
 
 total-one : (m k : ℕ) → k < m → total (table m (λ j. flag (k == j) 1)) ≡ 1
 unfolding total table

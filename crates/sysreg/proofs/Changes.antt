@@ -1,4 +1,5 @@
 -- A control register that counts in the shape: a write of another value changes the shape.
+use Rattle.std.proofs.Common.{arith}
 use Rattle.std.specs.Prelude.{◌≡◌, refl, Bool, true, false, ℕ, Some}
 use Rattle.std.proofs.Common.{◌∙◌}
 use Rattle.std.proofs.lemmas.Bool.{false≢true}
@@ -14,8 +15,7 @@ use Rattle.sysreg.specs.Shape.{SameShape}
 use Rattle.sysreg.proofs.ShapeLaws.{shape-agrees, shape-self, shape-kept}
 
 not_so : (b : Bool) → (b ≡ true → ⊥) → b ≡ false
-not_so true h = absurd (h refl)
-not_so false h = refl
+not_so b h = grind arith
 
 -- settings of one shape hold the same in the register
 same : (c : Control) (r : Register) (v : ℕ) → in_control r ≡ true → (r ≡ Ttbr0 El1 → ⊥) → (r ≡ Ttbr1 → ⊥) → SameShape c (control_with c r v) → control_at c r ≡ v
@@ -31,8 +31,7 @@ same c r v i a b s = absurd (false≢true i)
 
 pub shape-changed : (c : Control) (r : Register) (v : ℕ) → in_control r ≡ true → (r ≡ Ttbr0 El1 → ⊥) → (r ≡ Ttbr1 → ⊥) → (control_at c r ≡ v → ⊥)
     → same_shape c (control_with c r v) ≡ false
-shape-changed c r v i a b n =
-    not_so (same_shape c (control_with c r v)) (λ e. n (same c r v i a b (shape-agrees c (control_with c r v) e)))
+shape-changed c r v i a b n = grind (arith, not_so, same, shape-agrees)
 
 -- the two that do not count
 pub keeps-ttbr0 : (c : Control) (v : ℕ) → same_shape c (control_with c (Ttbr0 El1) v) ≡ true

@@ -1,7 +1,7 @@
 -- Of any five fields the key, and of any number the register that it names.
-use Rattle.std.specs.Prelude.{if◌then◌else◌, ◌≡◌, refl, Bool, true, false, ◌&&◌, List, [], ◌∷◌, ◌++◌, ℕ, ◌+◌, ◌*◌, ◌^◌, ◌≤◌, ◌<◌, eqb, ltb, Some, None}
-use Rattle.std.proofs.Common.{sym, ap, ◌∙◌, mod-eq_of_lt, arith, eqb-true, le-ltb}
-use Rattle.std.proofs.lemmas.Bool.{false≢true}
+use Rattle.std.proofs.Common.{rules}
+use Rattle.std.specs.Prelude.{if◌then◌else◌, ◌≡◌, refl, Bool, true, false, List, [], ◌∷◌, ◌++◌, ℕ, ◌+◌, ◌*◌, ◌^◌, ◌≤◌, ◌<◌, eqb, Some, None}
+use Rattle.std.proofs.Common.{ap, ◌∙◌, mod-eq_of_lt, arith, eqb-true}
 use Rattle.std.specs.Int.Bits.{bit_or}
 use Rattle.std.proofs.lemmas.Nat.{or_shifted}
 use Rattle.sysreg.specs.declared.{regs.Register.Register}
@@ -27,27 +27,10 @@ key-in-range op0 op1 crn crm op2 a b c d e =
       below (((op0 * 8 + op1) * 16 + crn) * 16 + crm) 3 op2 (op0 * 2 ^ 14 + op1 * 2 ^ 11 + crn * 2 ^ 7 + crm * 2 ^ 3) (omega arith) (omega arith),
     )
 
--- every encoding of a list passes a test
-abbrev all : (ℕ → Bool) → List Register → Bool
-all p [] = true
-all p (r ∷ rs) = p (key_of r) && all p rs
-
--- a number that fails a test which a list passes is no encoding of it
-skip : (p : ℕ → Bool) (l m : List Register) (k : ℕ) → all p l ≡ true → p k ≡ false → find (l ++ m) k ≡ find m k
-skip p [] m k a f = refl
-skip p (r ∷ rs) m k a f = go (eqb k (key_of r)) refl (p (key_of r)) refl a (λ b. skip p rs m k b f)
-  where
-    go : (b : Bool) → eqb k (key_of r) ≡ b → (q : Bool) → p (key_of r) ≡ q → (q && all p rs) ≡ true →
-        (all p rs ≡ true → find (rs ++ m) k ≡ find m k) → (if b then Some r else find (rs ++ m) k) ≡ find m k
-    go true e true h a s = absurd (false≢true (sym f ∙ ap p (eqb-true k (key_of r) e) ∙ h))
-    go true e false h a s = absurd (false≢true a)
-    go false e true h a s = s a
-    go false e false h a s = absurd (false≢true a)
-
 -- a number of more than 16 bits names nothing
 pub wide_key : (k : ℕ) → 2 ^ 16 ≤ k → register_at k ≡ None
 unfolding register_at banked_at
-wide_key k h = skip (λ n. ltb n (2 ^ 16)) (Par ∷ each_level ++ one_level) [] k refl (le-ltb k (2 ^ 16) h)
+wide_key k h = search rules
 
 -- what is found has the encoding looked for
 found-key : (l : List Register) (k : ℕ) (r : Register) → find l k ≡ Some r → k ≡ key_of r

@@ -1,4 +1,6 @@
 -- The masks of the registers that keep some bits only.
+use Rattle.std.proofs.lemmas.Grind.{common_steps}
+use Rattle.std.proofs.Common.{arith}
 use mathlib.Core.Path.{◌≡◌, refl, sym, ap, ap₂, ◌∙◌}
 use Prim.Native.Nat.{ℕ, ◌+◌, ◌-◌, ◌*◌, ◌/◌, ◌%◌, ◌^◌, ◌<◌}
 use native.Mathlib.Nat.{add_assoc, mod-eq_of_lt, mod-lt, lt_of_le_of_lt}
@@ -8,7 +10,6 @@ use Rattle.std.proofs.Common.{lit≤}
 use Rattle.std.proofs.lemmas.Nat.Bits.{and_high_mask}
 use Rattle.word.specs.Bits.{align_down}
 use Rattle.sysreg.specs.declared.regs.Register.{Register}
-use Rattle.sysreg.specs.declared.regs.Register.TheVariants.{Vbar, Spsr, Esr, Vpidr}
 use Rattle.sysreg.specs.Write.{in_place, spsr_kept, kept}
 
 -- a mask in two parts, from bit k up and below it
@@ -43,15 +44,7 @@ low_mask v = and_mask v 32
 
 pub ruleset masks = (spsr_mask, vbar_mask, low_mask)
 
--- all bits of a value of n bits
-whole : (v n : ℕ) → v < 2 ^ n → bit_and v (2 ^ n - 1) ≡ v
-whole v n h = and_mask v n ∙ mod-eq_of_lt h
-
 -- what a register keeps is a mask of the value
 pub kept-masked : (r : Register) (v : ℕ) → v < 2 ^ 64 → kept r v ≡ bit_and v (kept r 0xFFFF_FFFF_FFFF_FFFF)
 unfolding spsr_kept
-kept-masked (Vbar el) v h = sym (vbar_mask v h)
-kept-masked (Spsr el) v h = sym (spsr_mask v)
-kept-masked (Esr el) v h = sym (low_mask v)
-kept-masked Vpidr v h = sym (low_mask v)
-kept-masked r v h = sym (whole v 64 h)
+kept-masked r v h = grind (arith, common_steps, vbar_mask, spsr_mask, low_mask)

@@ -1,12 +1,13 @@
 -- Laws of the shape and of the ASID, for the cache and its history.
+use Rattle.std.proofs.Common.{rules}
+use Rattle.std.proofs.Common.{arith}
 use Rattle.std.specs.Prelude.{if◌then◌else◌, ◌≡◌, refl, Bool, true, false, ◌&&◌, ◌||◌, List, [], ◌∷◌, ℕ, eqb, Some, Option, None, Err}
-use Rattle.std.proofs.Common.{sym, eqb-true, eq-eqb}
-use Rattle.std.proofs.lemmas.Bool.{false≢true, not-true}
+use Rattle.std.proofs.Common.{eqb-true, eq-eqb}
+use Rattle.std.proofs.lemmas.Bool.{not-true}
 use Rattle.word.proofs.BitLaws.{both}
 use Rattle.sysreg.specs.declared.{regs.Control.Control, regs.SysRegs.SysRegs}
 use Rattle.sysreg.specs.declared.{regs.Register.Register}
 use Rattle.sysreg.specs.declared.regs.Regime.TheVariants.{El1, El2, El3}
-use Rattle.sysreg.specs.declared.regs.Register.TheVariants.{Sctlr, Tcr}
 use Rattle.sysreg.specs.declared.write.WriteError.TheVariants.{Undefined}
 use Rattle.sysreg.specs.Regs.{in_control, control_at}
 use Rattle.sysreg.specs.Encoding.{key_of, register_at}
@@ -21,28 +22,13 @@ module _ (a b : Control) where
   Agree [] = Unit {0}
   Agree (r ∷ rs) = (control_at a r ≡ control_at b r) × Agree rs
 
-  agree : (l : List Register) → agree_on l a b ≡ true → Agree l
-  agree [] e = tt
-  agree (r ∷ rs) e =
-      let h = both (eqb (control_at a r) (control_at b r)) (agree_on rs a b) e in
-      (eqb-true (control_at a r) (control_at b r) h.0, agree rs h.1)
-
   agreed : (l : List Register) → Agree l → agree_on l a b ≡ true
   agreed [] h = refl
   agreed (r ∷ rs) h = rw (eq-eqb (control_at a r) (control_at b r) h.0) (agreed rs h.1)
 
   pub shape-agrees : same_shape a b ≡ true → SameShape a b
   unfolding same_shape
-  shape-agrees e =
-      let h = agree shape e in
-      record {
-        sctlr = by_level (λ el. control_at a (Sctlr el) ≡ control_at b (Sctlr el)) h.0 h.1.0 h.1.1.0;
-        tcr = by_level (λ el. control_at a (Tcr el) ≡ control_at b (Tcr el)) h.1.1.1.0 h.1.1.1.1.0 h.1.1.1.1.1.0;
-        ttbr0-el2 = h.1.1.1.1.1.1.0;
-        ttbr0-el3 = h.1.1.1.1.1.1.1.0;
-        hcr = h.1.1.1.1.1.1.1.1.0;
-        scr = h.1.1.1.1.1.1.1.1.1.0;
-      }
+  shape-agrees e = grind (arith, by_level, both, eqb-true)
 
   pub agrees-shape : SameShape a b → same_shape a b ≡ true
   unfolding same_shape
@@ -52,11 +38,7 @@ module _ (a b : Control) where
 
 pub shape-self : (c : Control) → same_shape c c ≡ true
 unfolding same_shape
-shape-self c = all shape
-  where
-    all : (l : List Register) → agree_on l c c ≡ true
-    all [] = refl
-    all (r ∷ rs) = rw (eq-eqb (control_at c r) (control_at c r) refl) (all rs)
+shape-self c = search rules
 
 -- each register of a list is one of `Control`
 abbrev all_control : List Register → Bool
@@ -64,8 +46,7 @@ all_control [] = true
 all_control (r ∷ rs) = in_control r && all_control rs
 
 neither : (x y : Bool) → (x || y) ≡ false → (x ≡ false) × (y ≡ false)
-neither true y e = absurd (false≢true (sym e))
-neither false y e = (refl, e)
+neither x y e = grind arith
 
 -- registers of `Control` that a write does not name hold what they held
 kept_on : (c : Control) (r : Register) (v : ℕ) (l : List Register) → all_control l ≡ true → member l r ≡ false → agree_on l c (control_with c r v) ≡ true
@@ -77,7 +58,7 @@ kept_on c r v (q ∷ qs) i e =
 
 pub shape-kept : (c : Control) (r : Register) (v : ℕ) → member shape r ≡ false → same_shape c (control_with c r v) ≡ true
 unfolding same_shape
-shape-kept c r v e = kept_on c r v shape refl e
+shape-kept c r v e = search (rules, kept_on)
 
 -- a write outside the shape, refused or not, leaves the shape
 pub write-keeps-shape : (c : Control) (s : SysRegs) (level k v : ℕ) →
