@@ -6,12 +6,10 @@ use sysreg::regs::Regime;
 use tlb::access::Kind;
 
 // What a line may begin with.
-const LINES: [&str; 41] = [
-    "fresh", "window", "zero", "load", "poke", "tr", "dpa", "fpa", "ld", "st", "if", "sys", "at",
-    "dc", "ic", "tlbi", "reg", "level", "mark", "x", "abort", "census", "l-asid", "l-on",
-    "l-untag", "l-walk", "l-bits", "l-perm", "l-bank", "l-vec", "l-syn", "p-level", "p-pc",
-    "p-spsel", "p-gen", "p-cnt", "p-bc", "w-word", "w-hint", "w-entry", "w-fetch",
-];
+const LINES: &str =
+    "fresh window zero load poke tr dpa fpa ld st if sys at dc ic tlbi reg level mark x abort census \
+    l-asid l-on l-untag l-walk l-bits l-perm l-bank l-vec l-syn \
+    p-level p-pc p-spsel p-gen p-cnt p-bc w-word w-hint w-entry w-fetch";
 
 /// The exceptions, without what they carry.
 #[derive(Clone, Copy)]
@@ -56,7 +54,7 @@ fn is(word: &[u8], name: &str) -> bool {
 /// The refusal of a line's first word.
 pub fn no_such_line(word: &[u8]) -> Reason {
     let mut nearest = Nearest::new(word);
-    for name in LINES {
+    for name in LINES.split_ascii_whitespace() {
         nearest.offer(name);
     }
     Reason::NoSuchLine(nearest.name)
