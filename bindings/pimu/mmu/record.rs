@@ -15,6 +15,8 @@ struct Trace {
     path: String,
     /// Whether the window of RAM stands in the trace.
     begun: bool,
+    /// Of a line that is not at its end: the table descriptors that were read since it began.
+    open: Option<u64>,
 }
 
 impl Clone for Recording {
@@ -30,6 +32,7 @@ impl Recording {
             out: BufWriter::new(File::create(path)?),
             path: path.into(),
             begun: false,
+            open: None,
         }))))
     }
 
@@ -41,15 +44,37 @@ impl Recording {
     /// A line, if anything is recorded. What cannot be written ends the recording.
     #[inline]
     pub(super) fn line(&mut self, line: fmt::Arguments) {
+        if self.is_on() {
+            self.write(line, None);
+        }
+    }
+
+    /// A line of an operation that reads tables: at its end stands how many descriptors.
+    pub(super) fn operation(&mut self, line: fmt::Arguments) {
+        self.write(line, Some(0));
+    }
+
+    /// The operation whose line was written last read so many descriptors.
+    pub(super) fn reads(&mut self, reads: u64) {
+        if let Some(open) = self.0.as_mut().and_then(|trace| trace.open.as_mut()) {
+            *open += reads;
+        }
+    }
+
+    #[cold]
+    fn write(&mut self, line: fmt::Arguments, open: Option<u64>) {
         if let Some(trace) = &mut self.0 {
-            if let Err(e) = writeln!(trace.out, "{line}") {
+            if let Err(e) = trace.line(line, open) {
                 self.fails(e);
             }
         }
     }
 
     pub(super) fn end(&mut self) -> io::Result<()> {
-        self.0.take().map_or(Ok(()), |mut trace| trace.out.flush())
+        self.0.take().map_or(Ok(()), |mut trace| {
+            trace.close()?;
+            trace.out.flush()
+        })
     }
 
     #[cold]
@@ -70,7 +95,7 @@ impl Recording {
             }
             _ => {}
         }
-        self.line(line);
+        self.operation(line);
     }
 
     /// An invalidation, as a `TLBI` that asks for it: at a level and in a regime that may.
@@ -131,11 +156,36 @@ impl Recording {
 }
 
 impl Trace {
+    /// The end of a line that waits for it, then this line; `open` where it has to wait.
+    fn line(&mut self, line: fmt::Arguments, open: Option<u64>) -> io::Result<()> {
+        self.close()?;
+        write!(self.out, "{line}")?;
+        self.open = open;
+        if open.is_none() {
+            writeln!(self.out)?;
+        }
+        Ok(())
+    }
+
+    fn close(&mut self) -> io::Result<()> {
+        match self.open.take() {
+            Some(reads) => writeln!(self.out, " #=; rd={reads:x}"),
+            None => Ok(()),
+        }
+    }
+
     /// The window, and RAM as it is now.
     fn begin(&mut self, ram: &Ram) -> io::Result<()> {
         let image = format!("{}.ram", self.path);
         std::fs::write(&image, &*ram.bytes)?;
         writeln!(self.out, "window {:x} {:x}", ram.base, ram.bytes.len())?;
         writeln!(self.out, "load {image} {:x}", ram.base)
+    }
+}
+
+/// A recording that nobody ends is whole up to its last line.
+impl Drop for Trace {
+    fn drop(&mut self) {
+        let _ = self.close();
     }
 }

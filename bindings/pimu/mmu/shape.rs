@@ -2,7 +2,7 @@
 use crate::aarch64::sysreg::SysRegs;
 use a72::registers;
 
-/// pimu's registers that decide translation.
+/// pimu's registers that decide translation and `AT`.
 #[derive(Clone, PartialEq, Eq)]
 pub(super) struct Shape {
     sctlr: [u64; 4],
@@ -11,8 +11,7 @@ pub(super) struct Shape {
     ttbr1_el1: u64,
     scr_el3: u64,
     hcr_el2: u64,
-    /// For `AT` alone, and told when that asks.
-    pub(super) mair: [u64; 4],
+    mair: [u64; 4],
 }
 
 impl Shape {
@@ -29,13 +28,26 @@ impl Shape {
         }
     }
 
-    /// Whether the registers that an access in this regime reads are these.
+    /// Whether the registers that an answer without a walk reads, in this regime, are these.
     #[inline(always)]
-    pub(super) fn is(&self, s: &SysRegs, regime: u32) -> bool {
+    pub(super) fn answers(&self, s: &SysRegs, regime: u32) -> bool {
         let r = regime as usize & 3;
-        let own = self.sctlr[r] ^ s.sctlr[r] | self.tcr[r] ^ s.tcr[r] | self.ttbr0[r] ^ s.ttbr0[r];
-        let all = self.ttbr1_el1 ^ s.ttbr1_el1 | self.scr_el3 ^ s.scr_el3 | self.hcr_el2 ^ s.hcr_el2;
-        own | all == 0
+        let own = self.sctlr[r] ^ s.sctlr[r] | self.tcr[r] ^ s.tcr[r];
+        own | self.scr_el3 ^ s.scr_el3 | self.hcr_el2 ^ s.hcr_el2 == 0
+    }
+
+    /// Whether those are these that `AT` of this regime reads.
+    #[inline(always)]
+    pub(super) fn walks(&self, s: &SysRegs, regime: u32) -> bool {
+        let r = regime as usize & 3;
+        let own = self.ttbr0[r] ^ s.ttbr0[r] | self.mair[r] ^ s.mair[r];
+        own | self.ttbr1_el1 ^ s.ttbr1_el1 == 0 && self.answers(s, regime)
+    }
+
+    /// Whether all are these.
+    #[inline(always)]
+    pub(super) fn is(&self, s: &SysRegs) -> bool {
+        (1..4).all(|regime| self.walks(s, regime))
     }
 }
 

@@ -3,9 +3,9 @@ use std::{fmt, io};
 
 use super::record::Recording;
 use super::shape::{told, Shape};
-use super::{data_slot, Kind, FSC_EXTERNAL};
+use super::{data_slot, stage1_on, Kind, Status, FSC_EXTERNAL};
 use crate::aarch64::sysreg::SysRegs;
-use a72::{registers, Broadcast, Core, Counters, Level, Ram, Status, Stop, SystemOperation};
+use a72::{registers, Broadcast, Core, Counters, Level, Ram, Stop, SystemOperation};
 
 /// What a `TLBI` drops.
 #[derive(Clone, Copy, Debug, PartialEq, Eq)]
@@ -42,10 +42,12 @@ enum Asked {
     Flush,
 }
 
+const EXTERNAL: Status = FSC_EXTERNAL as Status;
+
 /// The status of a fault. Nothing else stops a translation: the level is one of four, and RAM ends below 2^64.
-fn status(stop: Stop) -> u8 {
+fn status(stop: Stop) -> Status {
     match stop {
-        Stop::Fault(fault) => fault.status.0,
+        Stop::Fault(fault) => fault.status.0.into(),
         stop => panic!("a translation was {stop}"),
     }
 }
@@ -61,6 +63,8 @@ pub struct Tlb {
     late: Vec<Inval>,
     /// Whether the hints may be asked past the core: nothing waits, and nothing is recorded.
     hints: bool,
+    /// 1 where stage 1 is on at EL0 to EL3, by the registers told: what an answer at hand adds to the hits.
+    on: [u64; 4],
     recording: Recording,
     pub hits: u64,
     pub walks: u64,
@@ -90,6 +94,7 @@ impl Tlb {
             asked: Asked::Nothing,
             late: Vec::new(),
             hints: true,
+            on: [0; 4],
             recording: Recording::default(),
             hits: 0,
             walks: 0,
@@ -113,6 +118,7 @@ impl Tlb {
         self.core = Core::new();
         (self.hits, self.walks) = (0, 0);
         self.told = Shape::of(&SysRegs::new(0));
+        self.on = [0; 4];
         self.asked = Asked::Nothing;
         self.late.clear();
         self.hints = false;
@@ -198,13 +204,32 @@ impl Tlb {
         });
     }
 
-    /// Tell the core what pimu's registers, level and mark are, where that is not what it was told. Of the registers those
-    /// count that the level's regime reads.
+    /// Whether the core is to be told of registers before an answer without a walk, or is always asked as a whole.
+    #[inline(always)]
+    pub(super) fn lags(&self, s: &SysRegs, el: u32) -> bool {
+        !self.hints || !self.told.answers(s, el.max(1))
+    }
+
+    /// Tell the core what pimu's registers, level and mark are, where that is not what it was told.
     #[inline(always)]
     pub(super) fn tell(&mut self, s: &SysRegs, el: u32, mark: bool) {
-        if self.asked != Asked::Nothing || !self.told.is(s, el.max(1)) {
+        if !self.hints || !self.told.is(s) {
             self.tell_registers(s);
         }
+        self.tell_privilege(el, mark);
+    }
+
+    /// The same, but of registers those that `AT` of this regime reads.
+    #[inline(always)]
+    pub(super) fn tell_at(&mut self, s: &SysRegs, el: u32, mark: bool, regime: u8) {
+        if !self.hints || !self.told.walks(s, regime.into()) {
+            self.tell_registers(s);
+        }
+        self.tell_privilege(el, mark);
+    }
+
+    #[inline(always)]
+    pub(super) fn tell_privilege(&mut self, el: u32, mark: bool) {
         if self.core.level() != u64::from(el) {
             self.tell_level(el);
         }
@@ -213,21 +238,20 @@ impl Tlb {
         }
     }
 
-    /// The same for `AT` in this regime, which reads `MAIR` too.
-    #[inline]
-    pub(super) fn tell_at(&mut self, s: &SysRegs, el: u32, mark: bool, regime: u8) {
-        let r = usize::from(regime & 3);
-        let other = u32::from(regime) != el.max(1);
-        if self.told.mair[r] != s.mair[r] || other && !self.told.is(s, regime.into()) {
-            self.tell_registers(s);
-        }
-        self.tell(s, el, mark);
-    }
-
-    /// Tell the registers by writes, then what was asked meanwhile, in this order.
+    /// Tell the registers by writes, then what was asked meanwhile, in this order. Whether the core is to be asked as a
+    /// whole: in a recording, and where its hints were not asked before and may be there still.
     #[cold]
     #[inline(never)]
-    fn tell_registers(&mut self, s: &SysRegs) {
+    pub(super) fn tell_registers(&mut self, s: &SysRegs) -> bool {
+        let had_hints = self.hints || self.asked != Asked::Nothing;
+        if self.asked != Asked::Nothing || !self.told.is(s) {
+            self.write_registers(s);
+        }
+        self.hints = !self.records();
+        !had_hints || self.records()
+    }
+
+    fn write_registers(&mut self, s: &SysRegs) {
         let before = self.core.counters();
         if self.core.level() == 0 {
             self.tell_level(1); // EL0 writes none
@@ -242,6 +266,7 @@ impl Tlb {
             }
         }
         self.told = Shape::of(s);
+        self.on = [1, 1, 2, 3].map(|regime| stage1_on(s, regime).into());
         let Counters { flushes, epoch, .. } = self.core.counters();
         match std::mem::replace(&mut self.asked, Asked::Nothing) {
             Asked::Flush if flushes == before.flushes => self.receive(Inval::All),
@@ -251,7 +276,6 @@ impl Tlb {
         for what in std::mem::take(&mut self.late) {
             self.receive(what);
         }
-        self.hints = !self.recording.is_on();
     }
 
     #[inline(never)]
@@ -268,51 +292,40 @@ impl Tlb {
         self.recording.line(format_args!("mark {}", u8::from(mark)));
     }
 
-    /// The hits of the present level, by one word of the core's: the sum of all would wait for a word just written.
+    /// One translation by the core, where no table is to be read and no hint serves: an entry answers, which counts, or
+    /// stage 1 is off.
     #[inline(always)]
-    fn level_hits(&self) -> u64 {
-        let [el0, el1, el2, el3] = self.core.counters().levels;
-        match self.core.level() {
-            0 => el0.hits,
-            1 => el1.hits,
-            2 => el2.hits,
-            _ => el3.hits,
-        }
-    }
-
-    /// One translation by the core, where no table is to be read.
-    #[inline(always)]
-    pub(super) fn at_hand(&mut self, va: u64, kind: Kind) -> Option<Result<u64, u8>> {
-        let before = self.level_hits();
+    pub(super) fn at_hand(&mut self, va: u64, kind: Kind) -> Option<Result<u64, Status>> {
         let answer = self.core.translate_at_hand(va, kind.into())?;
-        self.hits += self.level_hits() - before;
-        Some(answer.map_err(|Status(fsc)| fsc))
+        self.hits += self.on[self.core.level() as usize & 3];
+        Some(answer.map_err(|fsc| fsc.0.into()))
     }
 
     /// The same of a fetch, and the core's hint.
     #[inline(always)]
-    pub(super) fn fetch_at_hand(&mut self, va: u64) -> Option<Result<u64, u8>> {
-        let before = self.level_hits();
+    pub(super) fn fetch_at_hand(&mut self, va: u64) -> Option<Result<u64, Status>> {
         let answer = self.core.fetch_at_hand(va)?;
-        self.hits += self.level_hits() - before;
-        Some(answer.map_err(|Status(fsc)| fsc))
+        self.hits += self.on[self.core.level() as usize & 3];
+        Some(answer.map_err(|fsc| fsc.0.into()))
     }
 
     /// One translation by the core.
     #[inline]
-    pub(super) fn translate(&mut self, ram: &Ram, va: u64, kind: Kind) -> Result<u64, u8> {
+    pub(super) fn translate(&mut self, ram: &Ram, va: u64, kind: Kind) -> Result<u64, Status> {
         let answer = self.core.translate(ram, va, kind.into());
+        self.recording.reads(self.core.report().reads);
         self.count();
         answer.map_err(status)
     }
 
     /// Where a fetch by the core goes, which then has a hint of it, whether RAM holds the instruction or the bus has it
     /// elsewhere.
-    pub(super) fn fetch(&mut self, ram: &Ram, va: u64) -> Result<u64, u8> {
+    pub(super) fn fetch(&mut self, ram: &Ram, va: u64) -> Result<u64, Status> {
         let answer = self.core.fetch(ram, va);
+        self.recording.reads(self.core.report().reads);
         self.count();
         match answer.map_err(status) {
-            Ok(_) | Err(FSC_EXTERNAL) => Ok(self.core.fetch_hint().map_or(0, |hint| hint.pa) | (va & 0xFFF)),
+            Ok(_) | Err(EXTERNAL) => Ok(self.core.fetch_hint().map_or(0, |hint| hint.pa) | (va & 0xFFF)),
             Err(fsc) => Err(fsc),
         }
     }
@@ -320,8 +333,18 @@ impl Tlb {
     /// `AT` by the core: what it leaves in `PAR_EL1`.
     #[inline(always)]
     pub(super) fn at(&mut self, ram: &mut Ram, operation: SystemOperation, va: u64) -> u64 {
+        if self.records() {
+            self.note_at(operation, va);
+        }
         self.core.set_general(0, va).expect("a general register");
         self.core.system(ram, operation).expect("exec judged the level");
+        self.recording.reads(self.core.report().reads);
+        self.core.register(registers::PAR_EL1).unwrap_or(0)
+    }
+
+    #[cold]
+    #[inline(never)]
+    fn note_at(&mut self, operation: SystemOperation, va: u64) {
         let SystemOperation {
             op1,
             crn,
@@ -329,18 +352,21 @@ impl Tlb {
             op2,
             rt,
         } = operation;
-        if self.records() {
-            self.recording.line(format_args!("x 0 {va:x}"));
-            self.recording
-                .line(format_args!("sys {op1:x} {crn:x} {crm:x} {op2:x} {rt:x}"));
-        }
-        self.core.register(registers::PAR_EL1).unwrap_or(0)
+        self.recording.line(format_args!("x 0 {va:x}"));
+        self.recording
+            .operation(format_args!("sys {op1:x} {crn:x} {crm:x} {op2:x} {rt:x}"));
     }
 
     /// Whether accesses are recorded.
     #[inline(always)]
     pub(super) fn records(&self) -> bool {
         self.recording.is_on()
+    }
+
+    /// Whether hints are asked past the core. Not in a recording.
+    #[inline(always)]
+    pub(super) fn has_hints(&self) -> bool {
+        self.hints
     }
 
     pub(super) fn note(&mut self, ram: &Ram, line: fmt::Arguments) {

@@ -6,8 +6,9 @@ use std::{env, fs};
 
 const PUBLISHED: [&str; 4] = ["cpu.rs", "sysreg.rs", "exec.rs", "mod.rs"];
 const STUBS: [&str; 4] = ["fp.rs", "fpinsn.rs", "simd.rs", "predecode.rs"];
-const OURS: [&str; 5] = [
+const OURS: [&str; 6] = [
     "mmu.rs",
+    "mmu/access.rs",
     "mmu/tlb.rs",
     "mmu/shape.rs",
     "mmu/lend.rs",

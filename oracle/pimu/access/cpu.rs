@@ -21,3 +21,12 @@ pub fn last_pa(c: &Cpu) -> u64 {
 pub fn set_last_pa(c: &mut Cpu, pa: u64) {
     c.last_pa = pa;
 }
+
+/// The exclusive monitor's mark: virtual and physical address.
+pub fn exclusive(c: &Cpu) -> Option<(u64, u64)> {
+    c.exclusive
+}
+
+pub fn set_exclusive(c: &mut Cpu, mark: Option<(u64, u64)>) {
+    c.exclusive = mark;
+}

@@ -44,8 +44,8 @@ fn play<B: Side>(guest: &Guest, record: Option<&str>) -> Result<u64, String> {
         } else {
             1
         };
-        if let end @ (Ended::Vector | Ended::Flat) = pair.step(turn)? {
-            return Err(format!("ends in {end:?}"));
+        if pair.step(turn)? == Ended::Vector {
+            return Err("a vector instruction".into());
         }
     }
     pair.finish()?;

@@ -42,14 +42,18 @@ impl World {
     }
 
     fn boot(&mut self, p: &mut Asm) {
-        let on = if self.wide || self.rng.chance(2) {
+        let on = if self.mapped || self.rng.chance(2) {
             SCTLR_ON
         } else {
             SCTLR_ON & !1
         };
         for el in 1..4 {
             let key = |key| at_level(key, el);
-            let tcr = if el == 1 { self.tcr } else { self.tcr & 0xFFFF };
+            let tcr = if el == 1 {
+                self.tcr
+            } else {
+                self.tcr & 0xFFFF | self.tcr >> 17 & 1 << 20
+            };
             p.set(key(VBAR_EL1), VECTORS[el as usize]).set(key(TCR_EL1), tcr);
             p.set(key(MAIR_EL1), self.rng.next());
             p.set(
@@ -91,9 +95,10 @@ impl World {
             0 => FRAMES + r.below(0x8000),
             1 => BASE + ALIAS + r.below(0x20_0000),
             2 => r.below(1 << 44),
-            3 if self.wide => 0xFFFF_FF80_0000_0000 | va,
-            4 if self.wide => va | 0x5A << 56,
-            5 if self.wide => r.next(),
+            3 => 0xFFFF_FF80_0000_0000 | va,
+            4 => va | 0x5A << 56,
+            5 => r.next(),
+            6 => (FRAMES + r.below(0x8000)) | r.below(2) << 55 | 0x5A << 56,
             _ => va,
         }
     }
@@ -146,7 +151,7 @@ impl World {
     fn register(&mut self, p: &mut Asm) {
         let asid = self.rng.below(4) << 48 | if self.rng.chance(4) { 0x0100 << 48 } else { 0 };
         let root = self.rng.pick(&self.roots);
-        let toggles = 1 << 19 | if self.wide { 0 } else { 1 };
+        let toggles = 1 << 19 | if self.mapped { 0 } else { 1 };
         let level = self.rng.pick(&[1, 1, 1, 2, 3]);
         let (key, value) = match self.rng.below(14) {
             0..=4 => (TTBR0_EL1, root | asid),
@@ -158,7 +163,7 @@ impl World {
             7 => (at_level(SCTLR_EL1, level), SCTLR_ON ^ (self.rng.next() & toggles)),
             8 => (at_level(MAIR_EL1, level), self.rng.next()),
             9 => (SCR_EL3, 0x500 | self.rng.below(2)),
-            10 if !self.wide => (HCR_EL2, self.rng.pick(&[0, 1 << 12, 1 << 27])),
+            10 if !self.mapped => (HCR_EL2, self.rng.pick(&[0, 1 << 12, 1 << 27])),
             11 => (key(3, 0, 13, 0, 1), self.rng.next()),
             12 => (key(3, 3, 14, 3, 2), self.rng.next()),
             _ => (

@@ -3,11 +3,16 @@ use crate::bus::Bus;
 use crate::side::{Cache, Side};
 use a72::{registers::Key, Access, Core, Ram, SystemOperation};
 
-/// Carries out a trace and compares: RAM, live entries, hints, hits and walks.
+/// Carries out a trace and compares: what each operation read of the tables, and at the end RAM, live entries, hints,
+/// hits and walks.
 pub fn check(path: &str, recorded: &proved::aarch64::Cpu, bus: &Bus) -> Result<usize, String> {
     let text = std::fs::read_to_string(path).map_err(|e| format!("{path}: {e}"))?;
     let (mut core, mut base, mut bytes) = (Core::new(), 0, Vec::new());
     for (n, line) in (1..).zip(text.lines()) {
+        let (line, reads) = match line.split_once(" #=; rd=") {
+            Some((line, reads)) => (line, Some(reads)),
+            None => (line, None),
+        };
         let words: Vec<&str> = line.split(' ').collect();
         let number = |i: usize| u64::from_str_radix(words[i], 16).map_err(|e| format!("{path}:{n}: {e}"));
         let ram = &mut Ram::new(base, &mut bytes);
@@ -39,6 +44,10 @@ pub fn check(path: &str, recorded: &proved::aarch64::Cpu, bus: &Bus) -> Result<u
                     .map_err(|e| format!("{path}:{n}: {e}"))?;
             }
             _ => return Err(format!("{path}:{n}: {line}")),
+        }
+        let read = format!("{:x}", core.report().reads);
+        if reads.is_some_and(|reads| reads != read) {
+            return Err(format!("{path}:{n}: {line} reads {read} descriptors"));
         }
     }
     if base == 0 {

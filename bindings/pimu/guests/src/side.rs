@@ -13,8 +13,6 @@ pub enum Ended {
     Unsupported,
     /// A vector instruction, which pimu's stub does not have.
     Vector,
-    /// An access from 2^44 on with stage 1 off: pimu takes the address as it is, the proved core as the manual has it.
-    Flat,
 }
 
 /// An exception: its number in pimu's enum, address or immediate, write, status.
@@ -98,6 +96,8 @@ pub trait Side: Cache + Clone {
     fn take_sev(&mut self) -> bool;
     fn set_event(&mut self);
     fn set_irq(&mut self, on: bool);
+    /// The machine moves a table of EL1&0, past the instruction that does so. What may be an ASID stays.
+    fn move_tables(&mut self, upper: bool, base: u64);
     fn record(&mut self, path: &str);
     fn end_recording(&mut self);
     fn poked(&mut self, pa: u64, value: u64);
@@ -252,6 +252,14 @@ macro_rules! side {
 
             fn set_irq(&mut self, on: bool) {
                 self.irq_line = on;
+            }
+
+            fn move_tables(&mut self, upper: bool, base: u64) {
+                let register = match upper {
+                    true => &mut self.sys.ttbr1_el1,
+                    false => &mut self.sys.ttbr0[1],
+                };
+                *register = *register & 0xFFFF << 48 | base;
             }
 
             side!(record $pimu);

@@ -13,8 +13,8 @@ const TABLE_64K: u64 = BASE + 0x1F_0000;
 pub struct World {
     pub scene: Scene,
     pub rng: Rng,
-    /// Whether stage 1 is on throughout, so that addresses from 2^44 on are translated.
-    pub wide: bool,
+    /// Whether stage 1 is on throughout.
+    pub mapped: bool,
     pub large: bool,
     pub tcr: u64,
     pub roots: Vec<u64>,
@@ -25,12 +25,12 @@ pub struct World {
 impl World {
     pub fn new(seed: u64) -> World {
         let mut rng = Rng::new(seed);
-        let (wide, large) = (!rng.chance(3), rng.chance(6));
+        let (mapped, large) = (!rng.chance(3), rng.chance(6));
         let size = rng.pick(&if large { [32; 4] } else { [25, 25, 30, 16] });
         let granule = if large { 1 << 14 } else { 0 };
         let mut world = World {
             scene: Scene::new(),
-            wide,
+            mapped,
             large,
             tcr: size | granule | 2 << 30 | size.max(25) << 16,
             roots: Vec::new(),
@@ -41,7 +41,7 @@ impl World {
         if world.rng.chance(3) {
             world.tcr |= 1 << 36; // ASIDs of 16 bits
         }
-        if wide && world.rng.chance(2) {
+        if world.rng.chance(2) {
             world.tcr |= 3 << 37; // TBI0 and TBI1
         }
         if world.rng.chance(2) {
