@@ -42,16 +42,23 @@ impl Core {
                 let number = load::ended::<W>(core, va, Ok(pa), none, answer, ram.base, ram.bytes);
                 self.loaded(number)
             }
-            _ => self.load_rest::<W>(ram, va),
+            _ if within => self.load_rest::<W>(ram, va),
+            _ => self.load_pages::<W>(ram, va),
         }
+    }
+
+    /// Of two pages, with the checks.
+    #[inline(never)]
+    fn load_pages<W: Datum>(&mut self, ram: &Ram, va: u64) -> Result<u64, Stop> {
+        let (core, answer) = (&mut self.core, &mut self.answer);
+        let number = load::pages::<W>(core, va, answer, ram.base, ram.bytes);
+        self.loaded(number)
     }
 
     #[inline(never)]
     fn load_rest<W: Datum>(&mut self, ram: &Ram, va: u64) -> Result<u64, Stop> {
         let (core, answer) = (&mut self.core, &mut self.answer);
-        let number = if place::in_page(va) < W::WIDTH.bytes() {
-            load::pages::<W>(core, va, answer, ram.base, ram.bytes)
-        } else if 3 < core.privilege.level || ends_late(ram) {
+        let number = if 3 < core.privilege.level || ends_late(ram) {
             load::checked(core, va, W::WIDTH.bytes(), answer, ram.base, ram.bytes)
         } else {
             load::past_hint::<W>(core, va, answer, ram.base, ram.bytes)
@@ -91,16 +98,23 @@ impl Core {
                 let number = store::ended::<W>(core, va, Ok(pa), none, value, answer, ram.base, ram.bytes);
                 self.stored(number)
             }
-            _ => self.store_rest::<W>(ram, va, value),
+            _ if within => self.store_rest::<W>(ram, va, value),
+            _ => self.store_pages::<W>(ram, va, value),
         }
+    }
+
+    /// Of two pages, with the checks.
+    #[inline(never)]
+    fn store_pages<W: Datum>(&mut self, ram: &mut Ram, va: u64, value: u64) -> Result<(), Stop> {
+        let (core, answer) = (&mut self.core, &mut self.answer);
+        let number = store::pages::<W>(core, va, value, answer, ram.base, ram.bytes);
+        self.stored(number)
     }
 
     #[inline(never)]
     fn store_rest<W: Datum>(&mut self, ram: &mut Ram, va: u64, value: u64) -> Result<(), Stop> {
         let (core, answer) = (&mut self.core, &mut self.answer);
-        let number = if place::in_page(va) < W::WIDTH.bytes() {
-            store::pages::<W>(core, va, value, answer, ram.base, ram.bytes)
-        } else if 3 < core.privilege.level || ends_late(ram) {
+        let number = if 3 < core.privilege.level || ends_late(ram) {
             store::checked(core, va, W::WIDTH.bytes(), value, answer, ram.base, ram.bytes)
         } else {
             store::past_hint::<W>(core, va, value, answer, ram.base, ram.bytes)
@@ -126,10 +140,8 @@ impl Core {
     #[inline(always)]
     fn fetch_hinted(&self, ram: &Ram, va: u64) -> Option<u64> {
         let level = self.core.privilege.level;
-        if 3 < level || ends_late(ram) {
-            return None;
-        }
-        self.core.tlb.by_fetch_hint(level, va)
+        let pa = self.core.tlb.by_fetch_hint(level, va)?;
+        (level <= 3 && !ends_late(ram)).then_some(pa)
     }
 
     /// A fetch, or where it goes, that no hint serves at once.
@@ -171,6 +183,7 @@ impl Core {
         }
     }
 
+    #[cold]
     #[inline(never)]
     fn address_rest(&mut self, ram: &Ram, va: u64) -> Result<Option<u64>, Stop> {
         match self.fetch_rest::<false>(ram, va) {
