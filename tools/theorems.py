@@ -5,7 +5,9 @@ from pathlib import Path
 
 ROOT = Path(__file__).resolve().parent.parent
 # What an answer hands to a law, and is no law that it rests on.
-HANDED = {"real", "real-laws", "fresh_plain", "fresh-asid", "fresh-stands", "omega", "arith"}
+HANDED = {"real", "real-laws", "fresh_plain", "fresh-asid", "fresh-stands", "omega", "arith", "rules", "replicate-at"}
+# The key of laws that prove a function's clauses together, where they are not one for each.
+TOGETHER = "together"
 
 
 def crates():
@@ -32,6 +34,11 @@ def answers(crate, function):
     for record in re.findall(r"^returns \S+ = record \{(.*?)\}", text, re.M | re.S):
         given.update(part.strip().split(" = ", 1) for part in record.split(";") if " = " in part)
     laws = {clause: [w for w in dict.fromkeys(re.findall(r"[\w-]+", said)) if w in known] for clause, said in given.items()}
+    listed = re.search(r"^returns c = (?:assumption|search) \(?(.*?)\)?$", text, re.M)
+    if listed:
+        found = [law for law in re.findall(r"[\w-]+", listed[1]) if law not in HANDED]
+        stated = dict(functions(crate))[function]
+        laws |= {clause: [law] for clause, law in zip(stated, found)} if len(found) == len(stated) else {TOGETHER: found}
     return using(crate, function) | {clause: [w for w in found if w not in HANDED] or found for clause, found in laws.items()}
 
 
@@ -46,12 +53,14 @@ def using(crate, function):
 
 def cell(stated, laws):
     """A function's clauses, each with its laws; clauses that no law proves are told together, and one whose law has its name is told by it."""
+    together = laws.get(TOGETHER)
     parts, alone = [], [clause for clause in stated if not laws.get(clause)]
     for clause in stated:
         named = [law.replace("-", "_") for law in laws.get(clause, [])]
         if named:
             parts.append(f"`{laws[clause][0]}`" if named in ([clause], [""]) or not clause else f"{clause}: " + ", ".join(f"`{law}`" for law in laws[clause]))
-    return "; ".join(parts + ([", ".join(alone) + ": found"] if alone else []))
+    by = ("found by " + ", ".join(f"`{law}`" for law in together)) if together else "found"
+    return "; ".join(parts + ([", ".join(alone) + f": {by}"] if alone else []))
 
 
 def rows(text):
