@@ -57,7 +57,7 @@ end. One argument of each call alternates between two values, so that a case sta
 | TLBI | 1,024 live entries at the start |
 | lent | the translations of the same names again, under the bars of a core that was lent by reference inside the library |
 | census | 65,536 pages, from two addresses of one page; the Rust's side is a loop over `stage1_on`, `untag` and `walk` page by page into 129 counts; times and instructions are those of one page |
-| frames | a total of hours, and the largest of all; the Rust's side is one function of rate and total, by a product of 128 bits, divided, and what that leaves (`bench/rust.rs`): pimu has no such function. A function of 48,000 a second alone is compiled to a division of 64 bits: 1.94 ns beside the library's 2.58 |
+| frames | a total of hours, and the largest of all; the Rust's side is one function of rate and total, by a product of 128 bits, divided, and what that leaves (`bench/rust.rs`): pimu has no such function. A function of 48,000 a second alone is compiled to a division of 64 bits: 1.94 ns in a run in which the library took 2.58 |
 | register write | TCR_EL1 between two values; TTBR0_EL1 between two ASIDs; VBAR_EL1; SCTLR_EL1 to what it is |
 
 The bars: hint hits 1.05, on `fetch_pa` 1.5; entry hits of translate, data_pa and fetch_pa 1.1, of load, store and fetch 1.15; walks and faults of translations 1.05; stage 1 off 1.15; split accesses,
