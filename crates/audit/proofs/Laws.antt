@@ -1,15 +1,18 @@
 -- What the contracts of `audit` rest on: a leaf is judged as the core without a cache judges it, and what a call drops is
 -- read off its encoding or its registers.
-use Rattle.std.specs.Prelude.{if◌then◌else◌, ◌≡◌, refl, true, List, [], ◌∷◌, ℕ, ◌*◌, ◌/◌, ◌+◌, ◌%◌, ◌==◌, ◌≤◌, Ok, Err, Bool, length, count_by}
+use Rattle.std.specs.Prelude.{if◌then◌else◌, ◌≡◌, refl, true, false, List, [], ◌∷◌, ℕ, ◌*◌, ◌/◌, ◌+◌, ◌%◌, ◌==◌, ◌≤◌, Ok, Err, Bool, length, count_by}
 use Rattle.std.proofs.Common.{◌∙◌, ap, sym, arith}
 use Rattle.fault.specs.First.{first}
 use Rattle.walk.specs.Regime.{bank_of, stage1_on}
 use Rattle.sysreg.specs.Regs.{regime_of}
 use Rattle.walk.specs.Walk.{walk_of}
+use Rattle.walk.specs.Tag.{untagged}
+use Rattle.walk.specs.Answers.{Walked}
+use Rattle.word.specs.Ram.{word_at}
 use Rattle.walk.specs.declared.{level.Leaf.Leaf}
 use Rattle.sysreg.specs.declared.regs.Regime.{Regime}
 use Rattle.walk.proofs.WalkBounds.{leaf-bounds}
-use Rattle.tlb.specs.Access.{judged, user_of}
+use Rattle.tlb.specs.Access.{judged, user_of, flat_answer}
 use Rattle.tlb.proofs.Cells.{judged-is}
 use Rattle.tlb.specs.Entry.{entry_for}
 use Rattle.tlb.specs.Model.{Access, as_user, need, judge}
@@ -17,10 +20,11 @@ use Rattle.tlb.specs.declared.{access.Kind.Kind, access.Privilege.Privilege, Inv
 use Rattle.system.specs.Tlbi.{tlbi_of}
 use Rattle.system.specs.declared.decode.Encoding.{Encoding}
 use Rattle.system.specs.declared.decode.SysOp.TheVariants as Op
-use Rattle.cpu.specs.Bare.{Bare}
+use Rattle.cpu.specs.Bare.{Bare, bare_of}
+use Rattle.cpu.specs.Core.{bank_now}
 use Rattle.cpu.specs.declared.Core.{Core}
 use Rattle.cpu.specs.declared.call.Call.TheVariants.{System, Register}
-use Rattle.history.specs.Window.{Ram, memory_of}
+use Rattle.history.specs.Window.{Ram, memory_of, window_of}
 use Rattle.transparency.specs.Bare.{missed_in, op_in, operand_in, written_in, ruling_in, by_write, if_allowed}
 use Rattle.transparency.specs.Claim.{answer_by, untagged_in, uncached, drops_of}
 use Rattle.transparency.specs.Claim.{answers_of}
@@ -28,6 +32,7 @@ use Rattle.transparency.specs.Steps.{Step}
 use Rattle.tlb.specs.Answers.{Answer}
 use Rattle.tlb.specs.Asks.{Given}
 use Rattle.tlb.specs.Lists.{Each, done, more}
+use Rattle.walk_report.specs.Told.{told_by_walk, told_of, walk_told}
 use Rattle.audit.specs.Answers.{fresh_answer, given_in, listed}
 use Rattle.audit.specs.Counting.{differ, is_stale, stale_in}
 use Rattle.audit.specs.declared.answers.{Ask.Ask, Answered.Answered, Answers.Answers}
@@ -52,6 +57,38 @@ fresh-leaf b m k va leaf on w =
     rw (on, w)
     (judged-leaf (regime_of b.privilege.level) b.privilege k va leaf
     (leaf-bounds (bank_of b.control (regime_of b.privilege.level)) (regime_of b.privilege.level) (untagged_in b va) (memory_of m) leaf w).level-high)
+
+-- A WALK THAT IS SHOWN
+
+-- whatever the ASID, which a judgement does not read
+any-asid : (leaf : Leaf) (asid : ℕ) (user : Bool) (k : Kind) (va : ℕ) → judged (entry_for leaf asid 0) user k va ≡ judged (entry_for leaf 0 0) user k va
+unfolding judged
+any-asid leaf asid user k va = refl
+
+told-leaf : (c : Core) (k : Kind) (va : ℕ) (w : Walked) → ((leaf : Leaf) → w ≡ Ok leaf → leaf.level ≤ 3)
+    → told_by_walk c k va w ≡ told_of (answer_by w (need k (as_user (regime_of c.privilege.level) c.privilege.level c.privilege.unprivileged k)) va)
+told-leaf c k va (Ok leaf) h =
+    let r = regime_of c.privilege.level in
+    ap (λ (x : Answer). told_of x)
+    (any-asid leaf c.tlb.asid (user_of r c.privilege k) k va ∙ judged-leaf r c.privilege k va leaf (h leaf refl))
+told-leaf c k va (Err status) h = refl
+
+-- or with stage 1 off
+told-either : (on : Bool) (c : Core) (k : Kind) (va u : ℕ) (w : Walked) → ((leaf : Leaf) → w ≡ Ok leaf → leaf.level ≤ 3)
+    → (if on then told_by_walk c k va w else told_of (flat_answer u))
+    ≡ told_of (if on then answer_by w (need k (as_user (regime_of c.privilege.level) c.privilege.level c.privilege.unprivileged k)) va else flat_answer u)
+told-either true c k va u w h = told-leaf c k va w h
+told-either false c k va u w h = refl
+
+-- what is told of a walk made now is what the core without a cache answers
+pub walk_as_claimed : (c : Core) (base : ℕ) (ram : List ℕ) (k : Kind) (va : ℕ)
+    → walk_told c (word_at base ram 8) k va ≡ told_of (uncached (bare_of c) (window_of base ram) k va)
+walk_as_claimed c base ram k va =
+    let r = regime_of c.privilege.level in
+    let u = untagged (bank_now c).tcr r va in
+    let m = word_at base ram 8 in
+    told-either (stage1_on (bank_now c) r) c k va u (walk_of (bank_now c) r u m)
+    (λ leaf e. (leaf-bounds (bank_now c) r u m leaf e).level-high)
 
 -- LISTS OF ANSWERS
 

@@ -4,3 +4,4 @@
 pub mod answers;
 pub mod dropped;
 pub mod judged;
+pub mod theorems;

@@ -1,5 +1,5 @@
 // A number of cycles as sample frames. No core is asked.
-ghost use Rattle.std.specs.Prelude.{◌≡◌};
+ghost use Rattle.std.specs.Prelude.{◌≡◌, ◌*◌, ◌/◌, ◌%◌};
 ghost use Rattle.frames.specs.declared.Rate.TheVariants.{Hz48000, Hz44100};
 ghost use Rattle.frames.specs.Frames.{whole_of, rest_of};
 
@@ -21,6 +21,8 @@ fn split(rate: Rate, cycles: u64, left: &mut u64) -> u64
 pub extern "C" fn a72_frames_48000(cycles: u64, left: &mut u64) -> u64
     ensures whole { result ≡ whole_of Hz48000 cycles }
     ensures rest { left.new ≡ rest_of Hz48000 cycles }
+    ensures frames { result ≡ cycles / 31250 }
+    ensures remains { left.new ≡ cycles % 31250 }
 {
     split(Rate::Hz48000, cycles, left)
 }
@@ -30,6 +32,8 @@ pub extern "C" fn a72_frames_48000(cycles: u64, left: &mut u64) -> u64
 pub extern "C" fn a72_frames_44100(cycles: u64, left: &mut u64) -> u64
     ensures whole { result ≡ whole_of Hz44100 cycles }
     ensures rest { left.new ≡ rest_of Hz44100 cycles }
+    ensures frames { result ≡ cycles * 147 / 5000000 }
+    ensures remains { left.new ≡ cycles * 147 % 5000000 }
 {
     split(Rate::Hz44100, cycles, left)
 }

@@ -2,6 +2,7 @@
 //! A number of cycles shown as sample frames: a row for each rate, which names what its rest is counted in.
 ghost use Rattle.std.specs.Prelude.{◌≡◌};
 ghost use Rattle.frames.specs.Frames.{rate_of, parts_of, whole_of, rest_of};
+ghost use Rattle.frames_report.specs.Rows.{rows_of};
 
 use frames::Rate;
 use json_text::Count;
@@ -52,11 +53,16 @@ impl Row {
 
 impl Total {
     /// At the rate alone, or at both.
-    pub fn new(cycles: u64, rate: Option<Rate>) -> Self {
-        let at = |of: Rate| Some(Row::new(of, cycles));
+    pub fn new(cycles: u64, rate: Option<Rate>) -> Self
+        ensures cycles { result.cycles.0 ≡ cycles }
+        ensures rates { result.rates ≡ rows_of cycles rate }
+    {
         let rates = match rate {
-            Some(rate) => [at(rate), None],
-            None => [at(Rate::Hz48000), at(Rate::Hz44100)],
+            Some(rate) => [Some(Row::new(rate, cycles)), None],
+            None => [
+                Some(Row::new(Rate::Hz48000, cycles)),
+                Some(Row::new(Rate::Hz44100, cycles)),
+            ],
         };
         Total {
             cycles: Count(cycles),

@@ -10,7 +10,7 @@ use Rattle.reads_report.specs.Named.{system_page, in_its_regime}
 use Rattle.cpu.specs.Core.{reg_of}
 use Rattle.system.specs.declared.decode.SysOp.{SysOp}
 use Rattle.reads_report.specs.declared.rows.{Page.Page, Row.Row}
-use Rattle.reads_report.proofs.Same.{is-page}
+use Rattle.reads_report.proofs.Same.{is_page}
 
 -- the first rows and the others are all
 pub first_and_others : (f : Row → ℕ) (rows : List Row) (n : ℕ)
@@ -53,7 +53,7 @@ adds_where : (t : Page → Bool) (p : Page) (n : ℕ) (rows : List Row)
     ≡ (sum_by (λ (r : Row). if t r.page then r.descriptors else 0) rows % 2 ^ 64 + (if t p then n else 0)) % 2 ^ 64
 adds_where t p n rows =
     adds (λ (r : Row). if t r.page then r.descriptors else 0) p n (if t p then n else 0) rows
-    (λ r h. gained (t r.page) r.descriptors n ∙ ap (λ (x : Page). ((if t r.page then r.descriptors else 0) + (if t x then n else 0)) % 2 ^ 64) (sym (is-page p r.page h)))
+    (λ r h. gained (t r.page) r.descriptors n ∙ ap (λ (x : Page). ((if t r.page then r.descriptors else 0) + (if t x then n else 0)) % 2 ^ 64) (sym (is_page p r.page h)))
     (gained (t p) 0 n ∙ begins (t p))
   where
     begins : (b : Bool) → ((if b then 0 else 0) + (if b then n else 0)) % 2 ^ 64 ≡ (if b then n else 0) % 2 ^ 64

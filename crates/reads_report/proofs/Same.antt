@@ -2,7 +2,7 @@
 use Rattle.std.specs.Prelude.{if◌then◌else◌, ◌≡◌, refl, true, ℕ, zero, suc, ◌+◌, ◌==◌, ◌&&◌, ◌∷◌, [], ◌++◌, Bool, not, cond, List, length, map, nat_lt, Option, Some, None, is_some, slice_set, slice_index_or}
 use Rattle.std.specs.List.{list_any, position, position_or_len}
 use Rattle.std.proofs.Common.{ap, sym, ◌∙◌}
-use Rattle.std.proofs.lemmas.Bool.{eqb-true}
+use Rattle.std.proofs.lemmas.Bool.{eqb-true, eq-eqb, and_from}
 use Rattle.word.proofs.BitLaws.{both}
 use Rattle.sysreg.specs.Regs.{index_of}
 use Rattle.sysreg.specs.declared.regs.Regime.{Regime}
@@ -22,8 +22,8 @@ is-regime El2 El3 h = cc
 is-regime El3 El1 h = cc
 is-regime El3 El2 h = cc
 
-pub is-page : (a p : Page) → same a p ≡ true → a ≡ p
-is-page a p h =
+pub is_page : (a p : Page) → same a p ≡ true → a ≡ p
+is_page a p h =
     let x = both (a.level == p.level) (index_of a.regime == index_of p.regime && a.number == p.number) h in
     let y = both (index_of a.regime == index_of p.regime) (a.number == p.number) x.1 in
     λ i. record {
@@ -31,6 +31,13 @@ is-page a p h =
       regime = is-regime a.regime p.regime y.0 i;
       number = eqb-true a.number p.number y.1 i;
     }
+
+-- a page is one page with itself
+pub page_itself : (p : Page) → same p p ≡ true
+page_itself p =
+    and_from (p.level == p.level) (index_of p.regime == index_of p.regime && p.number == p.number) (eq-eqb p.level p.level refl)
+    (and_from (index_of p.regime == index_of p.regime) (p.number == p.number) (eq-eqb (index_of p.regime) (index_of p.regime) refl)
+    (eq-eqb p.number p.number refl))
 
 -- PLACES
 

@@ -1,13 +1,20 @@
 //! What holds of the counting: each function computes nothing, and its contract is the theorem.
-ghost use Rattle.std.specs.Prelude.{◌≡◌, ℕ, ◌+◌, ◌%◌, ◌^◌, List, drop, take};
+ghost use Rattle.std.specs.Prelude.{◌≡◌, ℕ, ◌+◌, ◌%◌, ◌^◌, List, drop, take, true};
 ghost use Rattle.reads_report.specs.Counting.{Counts};
 ghost use Rattle.reads_report.specs.Named.{in_its_regime};
-ghost use Rattle.reads_report.specs.Rows.{descriptors_in, operations_in};
+ghost use Rattle.reads_report.specs.Rows.{descriptors_in, operations_in, same};
 ghost use Rattle.reads_report.specs.declared.rows.{Page.Page, Row.Row};
 
 /// An operation is counted once, with all that it read, at its page and its level alone.
 pub fn counting_of_operations()
     ensures { (p : Page) (n : ℕ) (rows : List Row) → Counts p n rows }
+{}
+
+/// Two are one page just where they are equal in all that a page has.
+#[tactic(auto, using(crate::proofs::Same::is_page, crate::proofs::Same::page_itself))]
+pub fn pages_of_operations()
+    ensures equal { (p q : Page) → same p q ≡ true → p ≡ q }
+    ensures itself { (p : Page) → same p p ≡ true }
 {}
 
 /// The first rows and the others are all.

@@ -1,4 +1,6 @@
 //! An answer that a walk made now would not give, and where it comes from.
+ghost use Rattle.std.specs.Prelude.{◌≡◌, ◌==◌, ◌||◌};
+
 use crate::auditor::Auditor;
 use crate::kept::{Cause, Kept};
 use crate::words::Aside;
@@ -88,7 +90,12 @@ pub struct Audit {
 
 impl Audit {
     /// Of a trace that was carried out to its end, or to its first stale answer.
-    pub fn new(auditor: Auditor, all: bool) -> Self {
+    pub fn new(auditor: Auditor, all: bool) -> Self
+        ensures accesses { result.accesses.0 ≡ auditor.counts.accesses }
+        ensures stale { result.stale.0 ≡ auditor.counts.stale }
+        ensures whole { result.whole ≡ (all || auditor.counts.stale == 0) }
+        ensures found { result.findings.items ≡ auditor.found.items }
+    {
         let Auditor {
             counts: Counts { accesses, stale },
             found,
@@ -102,7 +109,10 @@ impl Audit {
         }
     }
 
-    pub fn is_clean(&self) -> bool {
+    /// Whether no stale answer was counted.
+    pub fn is_clean(&self) -> bool
+        ensures { result ≡ (self.now.stale.0 == 0) }
+    {
         self.stale.0 == 0
     }
 }

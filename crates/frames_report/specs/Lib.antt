@@ -1,0 +1,2 @@
+-- What the contracts of `frames_report` cite.
+pub mod Rows
