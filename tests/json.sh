@@ -85,6 +85,7 @@ refused 1 '{"place":"none","reason":"No such file or directory"}' audit none --j
 refused 1 '{"place":"--image","reason":"No such file or directory"}' run tests/page.trace --image none@0 --json
 refused 1 '{"reason":"LEVEL: 0, 1, 2 or 3"}' walk tests/page.trace 0 read 4 --json
 refused 1 '{"reason":"TOTAL: not a decimal number of 64 bits"}' frames 1f --json
+refused 1 '{"reason":"the rate is 48000 or 44100 frames a second"}' frames 1 96000 --json
 refused 1 '{"reason":"PAGES: more than 65536 pages (10000 hexadecimal)"}' census tests/page.trace 0 10001 --json
 refused 2 '{"reason":"no such command: runs (the nearest is run)"}' runs --json
 refused 2 '{"reason":"no such option: --long"}' run tests/page.trace --json --long

@@ -19,6 +19,9 @@ unset A72_LIB
 
 (cd bindings/rust && cargo test --offline && RUSTDOCFLAGS='-D warnings' cargo doc --offline --no-deps) >"$work/cargo" 2>&1 || { cat "$work/cargo"; exit 1; }
 (cd bindings/rust-archive && cargo test --offline) >"$work/archive" 2>&1 || { cat "$work/archive"; exit 1; }
+# serde itself is not packed: cargo reads what the crate over it states.
+(cd bindings/rust-serde && cargo metadata --no-deps --offline --format-version 1) >"$work/serde" 2>&1 || { cat "$work/serde"; exit 1; }
+grep -q '"name":"a72-serde"' "$work/serde" || { echo "release.sh: cargo does not read bindings/rust-serde"; exit 1; }
 tests=$(cat "$work/cargo" "$work/archive" | awk '/^test result/ { p += $4 } END { print p + 0 }')
 [ "$tests" -gt 0 ] || { echo "release.sh: cargo tested nothing"; exit 1; }
 # What the pages of the archive name is in it: the format of traces, and the tool's samples.

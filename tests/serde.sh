@@ -1,36 +1,43 @@
 #!/bin/sh
 # bindings/rust-serde with serde itself, which nothing here holds: its unit tests and its documentation's example, and the build without features.
-# The crates are those of the folder A72_CRATES (as 'cargo vendor' makes one), or Debian's packages, unpacked for this run.
+# The crates are those of the folder A72_CRATES (as 'cargo vendor' makes one, or --fetch), or Debian's packages, unpacked for this run.
 #   tests/serde.sh            tests
 #   tests/serde.sh --fetch F  the crates into the folder F, and no more; status 1 where they are not to be had
 set -eu
-cd "$(dirname "$0")/.."
+# A folder is meant from where this was called.
+from_here() { case $1 in /*) echo "$1" ;; *) echo "$PWD/$1" ;; esac; }
+crates=${A72_CRATES-}
+[ -z "$crates" ] || crates=$(from_here "$crates")
 packages='serde serde-derive bincode syn quote proc-macro2 unicode-ident'
 
-# Debian's packages of the crates, as a folder of sources.
+# Debian's packages of the crates, as a folder of sources. Called where sh forgets -e.
 fetch() { # FOLDER
-    mkdir -p "$1/packages"
+    mkdir -p "$1/packages" || return 1
     (
-        cd "$1/packages"
-        for name in $packages; do printf 'librust-%s-dev\n' "$name"; done | xargs apt-get -o APT::Sandbox::User=root download
-        for package in *.deb; do dpkg-deb -x "$package" ..; done
+        cd "$1/packages" || exit 1
+        for name in $packages; do printf 'librust-%s-dev\n' "$name"; done | xargs apt-get -o APT::Sandbox::User=root download || exit 1
+        for package in *.deb; do dpkg-deb -x "$package" .. || exit 1; done
     ) >"$1/log" 2>&1 || { tail -n 3 "$1/log" >&2; return 1; }
 }
 
 if [ "${1-}" = --fetch ]; then
-    fetch "$2"
-    exit
+    fetch "$(from_here "$2")" || exit 1
+    exit 0
 fi
+cd "$(dirname "$0")/.."
 work=$(mktemp -d)
 trap 'rm -rf "$work"' EXIT
-crates=${A72_CRATES-}
 if [ -z "$crates" ]; then
-    fetch "$work/debian" || { echo "serde.sh: no package of serde is to be had; A72_CRATES names a folder of crates"; exit 1; }
-    crates=$work/debian/usr/share/cargo/registry
+    crates=$work/debian
+    fetch "$crates" || { echo "serde.sh: no package of serde is to be had; A72_CRATES names a folder of crates"; exit 1; }
 fi
-mkdir "$work/bindings"
-cp -R bindings/rust bindings/rust-serde "$work/bindings/"
-rm -rf "$work"/bindings/*/target "$work"/bindings/rust-serde/Cargo.lock
+[ ! -d "$crates/usr/share/cargo/registry" ] || crates=$crates/usr/share/cargo/registry
+for crate in rust rust-serde; do
+    mkdir -p "$work/bindings/$crate"
+    for file in bindings/"$crate"/*; do
+        case $file in */target | */Cargo.lock) ;; *) cp -R "$file" "$work/bindings/$crate/" ;; esac
+    done
+done
 cd "$work/bindings/rust-serde"
 from() { cargo "$@" --offline --config 'source.crates-io.replace-with="here"' --config "source.here.directory='$crates'"; }
 { from build --no-default-features && from test; } >"$work/log" 2>&1 || { cat "$work/log"; exit 1; }

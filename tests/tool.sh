@@ -545,6 +545,8 @@ PYTHON
         printf '%s\n' "$head" "$high" >"$work/want"
         "$tool" frames "$total" 44100 2>&1 | cmp -s - "$work/want" && pass || fail "frames $total 44100"
     done <"$work/totals"
+else
+    echo 'tool.sh: python3 is missing: sample frames are not compared'
 fi
 
 # Help and version, on standard output.

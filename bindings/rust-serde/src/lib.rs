@@ -33,9 +33,10 @@ extern crate alloc;
 #[cfg(feature = "alloc")]
 pub mod boxed;
 
+use a72::place::State;
 use a72::{Core, WORDS};
 use core::fmt::{self, Formatter};
-use serde::de::{Deserialize, Deserializer, Error, SeqAccess, Visitor};
+use serde::de::{Deserialize, Deserializer, Error, Expected, SeqAccess, Visitor};
 use serde::ser::{Serialize, SerializeSeq, Serializer};
 
 /// A core that serde takes where it stands by itself.
@@ -68,25 +69,42 @@ pub fn deserialize<'de, D: Deserializer<'de>>(deserializer: D) -> Result<Core, D
     deserializer.deserialize_seq(Words)
 }
 
+/// What a core is made of, for an error.
+fn expected(f: &mut Formatter) -> fmt::Result {
+    write!(f, "the {WORDS} words of a core")
+}
+
+/// A core's words out of a sequence that has no fewer and no more.
+fn read<'de, A: SeqAccess<'de>>(
+    mut seq: A,
+    words: &mut State,
+    expected: &impl Expected,
+) -> Result<(), A::Error> {
+    for (place, word) in words.iter_mut().enumerate() {
+        *word = seq
+            .next_element()?
+            .ok_or_else(|| A::Error::invalid_length(place, expected))?;
+    }
+    match seq.next_element::<u64>()? {
+        Some(_) => Err(A::Error::custom(format_args!(
+            "more than the {WORDS} words of a core"
+        ))),
+        None => Ok(()),
+    }
+}
+
 struct Words;
 
 impl<'de> Visitor<'de> for Words {
     type Value = Core;
 
     fn expecting(&self, f: &mut Formatter) -> fmt::Result {
-        write!(f, "the {WORDS} words of a core")
+        expected(f)
     }
 
-    fn visit_seq<A: SeqAccess<'de>>(self, mut seq: A) -> Result<Core, A::Error> {
+    fn visit_seq<A: SeqAccess<'de>>(self, seq: A) -> Result<Core, A::Error> {
         let mut words = [0; WORDS];
-        for (place, word) in words.iter_mut().enumerate() {
-            *word = seq
-                .next_element()?
-                .ok_or_else(|| A::Error::invalid_length(place, &self))?;
-        }
-        if seq.next_element::<u64>()?.is_some() {
-            return Err(A::Error::invalid_length(WORDS + 1, &self));
-        }
+        read(seq, &mut words, &self)?;
         let mut core = Core::new();
         core.restore(&words);
         Ok(core)

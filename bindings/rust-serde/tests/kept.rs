@@ -9,6 +9,8 @@ struct Machine {
     #[serde(with = "a72_serde")]
     first: Core,
     others: Vec<Kept>,
+    #[serde(with = "a72_serde::boxed")]
+    last: Box<Core>,
 }
 
 /// A core with an entry, hints, counters and a TLBI that is pending.
@@ -31,7 +33,11 @@ fn busy() -> Core {
 
 fn of(words: impl IntoIterator<Item = u64>) -> Result<Core, Error> {
     let all: Vec<u64> = words.into_iter().collect();
-    a72_serde::deserialize(SeqDeserializer::<_, Error>::new(all.into_iter()))
+    let sequence = || SeqDeserializer::<_, Error>::new(all.iter().copied());
+    let core = a72_serde::deserialize(sequence());
+    let boxed = a72_serde::boxed::deserialize(sequence());
+    assert!(core == boxed.map(|core| *core));
+    core
 }
 
 #[test]
@@ -39,12 +45,13 @@ fn a_machine_comes_back_as_it_was() {
     let machine = Machine {
         first: busy(),
         others: vec![Kept::default(), Kept(busy())],
+        last: Box::new(busy()),
     };
     let bytes = bincode::serialize(&machine).unwrap();
     // The number of words, and the words, of each core.
-    assert_eq!(bytes.len(), 8 + 3 * 8 * (WORDS + 1));
+    assert_eq!(bytes.len(), 8 + 4 * 8 * (WORDS + 1));
     let again: Machine = bincode::deserialize(&bytes).unwrap();
-    assert!(again.first == machine.first && again.others == machine.others);
+    assert!(again.first == machine.first && again.others == machine.others && again.last == machine.last);
     assert_eq!(again.first.broadcast(), Some(Broadcast::Page(0x1234)));
     assert_ne!(again.others[0], again.others[1]);
 }
@@ -57,7 +64,7 @@ fn as_many_words_as_a_core_has() {
     let short = of(words().take(WORDS - 1)).unwrap_err().to_string();
     assert_eq!(short, "invalid length 5212, expected the 5213 words of a core");
     let long = of(words().chain([0])).unwrap_err().to_string();
-    assert_eq!(long, "invalid length 5214, expected the 5213 words of a core");
+    assert_eq!(long, "more than the 5213 words of a core");
 }
 
 #[test]

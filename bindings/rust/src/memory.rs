@@ -1,18 +1,18 @@
 //! What answers at physical addresses: RAM, in a window and in regions beside it, and devices.
-use crate::answer::Stop;
+use crate::answer::{Fault, Stop};
 use crate::core::Core;
 use crate::operation::{Status, Width};
 use crate::ram::Ram;
-use crate::stage1::cpu::place;
+use crate::stage1::cpu::place::{self, Pages};
 use crate::system_operation::SystemOperation;
 
 /// All that answers at physical addresses: the window of RAM in which tables are walked, further regions of RAM, and
 /// the devices outside both.
 ///
-/// A load, store or fetch of one page is whole in the window, or whole in a region, or it is a device's: what is none of
-/// these is an abort of status 0x10, and no device is asked where a byte of it lies in RAM. Of an access over two pages,
-/// with stage 1 on, each byte lies in the window or in a region; no device is asked for one, and the lowest byte that
-/// lies in neither is the abort's. DC ZVA ([`Core::system_on`]) zeroes a line of the window or of a region.
+/// A load, store or fetch of one page lies in RAM, each byte in the window or in a region, or no byte of it does, and it is
+/// a device's: what is neither is an abort of status 0x10. Of an access over two pages, with stage 1 on, each byte lies in
+/// RAM; no device is asked for one, and the lowest byte that lies in none is the abort's. DC ZVA ([`Core::system_on`])
+/// zeroes a line of RAM.
 ///
 /// Tables are walked in the window alone: one that lies elsewhere ends the walk in 0x14 to 0x17. Which region is the
 /// window [`Memory::ram`] says anew for each operation.
@@ -76,31 +76,40 @@ impl Memory for [Ram<'_>] {
 /// The status of an access that no RAM answers.
 pub(crate) const EXTERNAL: Status = Status(0x10);
 
-/// Whose an access of one page is that stopped since a byte of it lies outside the window.
+/// Where the bytes of an access of one page lie, which stopped since the window has not all of them.
 enum Whose<'a> {
-    /// A region's, which has all of its bytes.
+    /// All in one region.
     Region(&'a mut [u8]),
-    /// A device's: no byte of it lies in RAM.
+    /// All in RAM: in regions that adjoin, or in the window and one.
+    Ram(Pages),
+    /// No byte in RAM: it is a device's.
     Device,
-    /// Nobody's.
+    /// Some in RAM, and some not: it is nobody's.
     Nobody,
 }
 
 fn whose(memory: &mut (impl Memory + ?Sized), pa: u64, width: Width) -> Whose<'_> {
     let size = width as u64;
+    let held = |ram: &Ram<'_>, i| ram.holds(pa.wrapping_add(i));
     let window = memory.ram();
-    if (0..size).any(|byte| window.holds(pa.wrapping_add(byte))) {
-        return Whose::Nobody;
-    }
-    if memory.region(pa).is_none() {
-        return match memory.region(pa.wrapping_add(size - 1)) {
-            Some(_) => Whose::Nobody,
-            None => Whose::Device,
+    let apart = !(0..size).any(|i| held(&window, i));
+    if apart
+        && memory
+            .region(pa)
+            .is_some_and(|region| (0..size).all(|i| held(&region, i)))
+    {
+        return match memory.region(pa).and_then(|region| region.part(pa, size)) {
+            Some(bytes) => Whose::Region(bytes),
+            None => Whose::Nobody,
         };
     }
-    match memory.region(pa).and_then(|region| region.part(pa, size)) {
-        Some(bytes) => Whose::Region(bytes),
-        None => Whose::Nobody,
+    if apart && !(0..size).any(|i| memory.region(pa.wrapping_add(i)).is_some()) {
+        return Whose::Device;
+    }
+    let pages = Pages::one(pa, size);
+    match pages.lacking(memory, 0..size) {
+        None => Whose::Ram(pages),
+        Some(_) => Whose::Nobody,
     }
 }
 
@@ -123,8 +132,9 @@ impl Core {
         place::crosses(on, va, width as u64)
     }
 
-    /// [`Core::load`] from RAM, or from the device that answers. [`Core::abort_pa`] is afterwards the address of the
-    /// lowest byte outside the window, where there was one.
+    /// [`Core::load`] from RAM, or from the device that answers. Where the window has not all bytes, [`Core::abort_pa`] is
+    /// afterwards the first byte's address; over two pages that of the lowest byte outside the window, and of an abort
+    /// that of the lowest which no RAM holds. Where the second page faults, the former stays.
     #[inline]
     pub fn load_from(
         &mut self,
@@ -166,6 +176,7 @@ impl Core {
         let pa = self.abort_pa();
         match whose(memory, pa, width) {
             Whose::Region(bytes) => Ok(value_of(bytes)),
+            Whose::Ram(pages) => Ok(pages.loaded(memory, width as u64)),
             Whose::Device => memory.read(pa, width).ok_or(stop),
             Whose::Nobody => Err(stop),
         }
@@ -208,6 +219,10 @@ impl Core {
                 bytes.copy_from_slice(&value.to_le_bytes()[..width as usize]);
                 Ok(())
             }
+            Whose::Ram(pages) => {
+                pages.stored(memory, width as u64, value);
+                Ok(())
+            }
             Whose::Device => memory.write(pa, width, value).then_some(()).ok_or(stop),
             Whose::Nobody => Err(stop),
         }
@@ -229,24 +244,32 @@ impl Core {
         Ok(instruction as u32)
     }
 
-    /// [`Core::system`] on RAM: DC ZVA zeroes what of its line lies in a region too. No device is asked.
+    /// [`Core::system`] on RAM: DC ZVA zeroes what of its line lies in regions too, by eight bytes, up to the first eight of
+    /// which no RAM holds one; the abort is theirs. No device is asked.
     pub fn system_on(
         &mut self,
         memory: &mut (impl Memory + ?Sized),
         operation: SystemOperation,
     ) -> Result<(), Stop> {
-        self.system(&mut memory.ram(), operation).or_else(|stop| {
-            let Stop::Fault(fault) = stop else {
-                return Err(stop);
-            };
-            if !is_external(stop) {
-                return Err(stop);
+        match self.system(&mut memory.ram(), operation) {
+            Err(Stop::Fault(fault)) if fault.status == EXTERNAL => self.zero_outside(memory, fault),
+            done => done,
+        }
+    }
+
+    /// The rest of a line, from the fault on: its first eight bytes are at `abort_pa`.
+    #[cold]
+    fn zero_outside(&mut self, memory: &mut (impl Memory + ?Sized), fault: Fault) -> Result<(), Stop> {
+        let rest = 64 - fault.address % 64;
+        let line = Pages::one(self.abort_pa(), rest);
+        for at in (0..rest).step_by(8) {
+            if line.lacking(memory, at..at + 8).is_some() {
+                self.core.abort_pa = line.byte_at(at);
+                let address = fault.address.wrapping_add(at);
+                return Err(Stop::Fault(Fault { address, ..fault }));
             }
-            let pa = self.abort_pa();
-            let rest = memory
-                .region(pa)
-                .and_then(|region| region.part(pa, 64 - fault.address % 64));
-            rest.map(|bytes| bytes.fill(0)).ok_or(stop)
-        })
+            Pages::one(line.byte_at(at), 8).stored(memory, 8, 0);
+        }
+        Ok(())
     }
 }

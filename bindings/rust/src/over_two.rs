@@ -1,9 +1,10 @@
-//! Loads and stores over two pages, of which the window of RAM does not hold all bytes, and a region holds some.
+//! Accesses of which the window of RAM does not hold all bytes, and a region holds some; and loads and stores over two pages.
 use crate::answer::{Fault, Stop};
 use crate::core::Core;
 use crate::memory::{EXTERNAL, Memory};
 use crate::operation::{Access, Width};
 use crate::stage1::cpu::place::{self, Pages};
+use core::ops::Range;
 
 /// The byte of RAM at a physical address, in the window or in a region.
 fn byte(memory: &mut (impl Memory + ?Sized), pa: u64) -> Option<&mut u8> {
@@ -13,6 +14,38 @@ fn byte(memory: &mut (impl Memory + ?Sized), pa: u64) -> Option<&mut u8> {
         memory.region(pa)?
     };
     ram.part(pa, 1)?.first_mut()
+}
+
+/// The bytes of an access, wherever in RAM each of them lies.
+impl Pages {
+    /// An access of one page.
+    pub(crate) fn one(pa: u64, size: u64) -> Pages {
+        let (in_page, pa2) = (size, 0);
+        Pages { in_page, pa, pa2 }
+    }
+
+    /// The lowest of these bytes that no RAM holds.
+    pub(crate) fn lacking(self, memory: &mut (impl Memory + ?Sized), mut bytes: Range<u64>) -> Option<u64> {
+        bytes.find(|&i| byte(memory, self.byte_at(i)).is_none())
+    }
+
+    /// The little-endian value of the first `size` bytes, all of which RAM holds.
+    pub(crate) fn loaded(self, memory: &mut (impl Memory + ?Sized), size: u64) -> u64 {
+        let mut value = [0; 8];
+        for (i, to) in (0..size).zip(&mut value) {
+            *to = byte(memory, self.byte_at(i)).map_or(0, |from| *from);
+        }
+        u64::from_le_bytes(value)
+    }
+
+    /// The low bytes of a value into the first `size` bytes, all of which RAM holds.
+    pub(crate) fn stored(self, memory: &mut (impl Memory + ?Sized), size: u64, value: u64) {
+        for (i, from) in (0..size).zip(value.to_le_bytes()) {
+            if let Some(to) = byte(memory, self.byte_at(i)) {
+                *to = from;
+            }
+        }
+    }
 }
 
 /// What of an access is there: the places of its bytes, how many of them a store writes, and what stops it.
@@ -51,7 +84,7 @@ impl Core {
             pa2: second.unwrap_or(0),
         };
         let mapped = if second.is_ok() { size } else { in_page };
-        let lacking = (0..mapped).find(|&i| byte(memory, pages.byte_at(i)).is_none());
+        let lacking = pages.lacking(memory, 0..mapped);
         let external = lacking.map(|i| {
             self.core.abort_pa = pages.byte_at(i);
             fault(va.wrapping_add(i), EXTERNAL)
@@ -74,11 +107,7 @@ impl Core {
         if let Some(stop) = found.stop {
             return Err(stop);
         }
-        let mut value = [0; 8];
-        for (i, to) in (0..found.moved).zip(&mut value) {
-            *to = byte(memory, found.pages.byte_at(i)).map_or(0, |from| *from);
-        }
-        Ok(u64::from_le_bytes(value))
+        Ok(found.pages.loaded(memory, found.moved))
     }
 
     pub(crate) fn store_over_two(
@@ -89,11 +118,7 @@ impl Core {
         value: u64,
     ) -> Result<(), Stop> {
         let found = self.found(memory, va, width, Access::Write)?;
-        for (i, from) in (0..found.moved).zip(value.to_le_bytes()) {
-            if let Some(to) = byte(memory, found.pages.byte_at(i)) {
-                *to = from;
-            }
-        }
+        found.pages.stored(memory, found.moved, value);
         found.stop.map_or(Ok(()), Err)
     }
 }

@@ -23,8 +23,8 @@ impl Draw {
     }
 }
 
-/// Two megabytes: tables as in `common`, and besides page 3 in the second, page 4 at the end of both, page 6 before them
-/// and page 7 in the second, to be read only.
+/// Two megabytes: tables as in `common`, and besides page 3 in the second, page 4 at the end of both, page 6 before them,
+/// page 7 in the second, to be read only, and page 9 the last of both.
 fn mapped() -> Vec<u8> {
     let mut all = bytes();
     all.resize(2 * MIB as usize, 0);
@@ -34,6 +34,7 @@ fn mapped() -> Vec<u8> {
         (4, (BASE + 2 * MIB) | 0x403),
         (6, (BASE - 0x1000) | 0x403),
         (7, (BASE + MIB + 0x5000) | 0x483),
+        (9, (BASE + 2 * MIB - 0x1000) | 0x403),
     ] {
         assert!(ram.write_u64(BASE + 0x3000 + 8 * page, descriptor));
     }
@@ -49,21 +50,33 @@ fn kept(core: &Core) -> Vec<u64> {
     words
 }
 
-/// One core has all RAM as its window, the other half of it, and the rest as a region.
-#[test]
-fn two_regions_are_as_one_window() {
+/// A virtual address on a page of `mapped`, or with stage 1 off one in RAM behind the tables.
+fn drawn(draw: &mut Draw, on: bool) -> u64 {
+    let page = 1 + draw.next() % 9;
+    let near = draw.of(&[0, 0x7FC, 0x800, 0xFF8, 0xFF8, 0xFFC]) + draw.next() % 8;
+    let from = [BASE + 0x7000, BASE + MIB - 0x1000, BASE + 2 * MIB - 0x2000];
+    (page << 12 | near) + if on { 0 } else { draw.of(&from) }
+}
+
+/// One core has `length` bytes of RAM as its window. The other's window is what of them lies before the first cut, and its
+/// regions lie from cut to cut.
+fn as_one_window(length: u64, cuts: &[u64]) {
     let mut one = mapped();
-    let mut low = one.clone();
-    let mut high = low.split_off(MIB as usize);
+    one.truncate(length as usize);
+    let mut parts = vec![(0, one.clone())];
+    for &cut in cuts {
+        let (from, last) = parts.last_mut().unwrap();
+        let rest = last.split_off((cut - *from) as usize);
+        parts.push((cut, rest));
+    }
     let (mut whole, mut parted) = (core(), core());
     let mut draw = Draw(0x9E37_79B9_7F4A_7C15);
-    let (mut done, mut stopped) = (0, 0);
+    let (mut done, mut stopped, mut on) = (0, 0, true);
     for step in 0..6_000 {
-        let page = 1 + draw.next() % 8;
-        let near = draw.of(&[0, 0x800, 0xFF8, 0xFF8, 0xFFC]) + draw.next() % 8;
-        let (va, width, value) = (page << 12 | near, draw.of(&WIDTHS), draw.next());
+        let va = drawn(&mut draw, on);
+        let (width, value) = (draw.of(&WIDTHS), draw.next());
         let mut all = Ram::new(BASE, &mut one);
-        let mut banks = [Ram::new(BASE, &mut low), Ram::new(BASE + MIB, &mut high)];
+        let mut banks: Vec<Ram> = parts.iter_mut().map(|(at, b)| Ram::new(BASE + *at, b)).collect();
         let banks = &mut banks[..];
         let kind = draw.next() % 8;
         let (a, b): (Result<u64, Stop>, Result<u64, Stop>) = match kind {
@@ -97,18 +110,29 @@ fn two_regions_are_as_one_window() {
             Err(_) => stopped += 1,
         }
         if step % 16 == 0 {
-            let on = draw.next() & 3 == 0;
+            let mark = draw.next() & 3 == 0;
+            on = step % 64 != 0;
             for core in [&mut whole, &mut parted] {
-                core.set_unprivileged(on).unwrap();
-                core.write_register(registers::SCTLR_EL1, u64::from(step % 64 != 0))
-                    .unwrap();
+                core.set_unprivileged(mark).unwrap();
+                core.write_register(registers::SCTLR_EL1, u64::from(on)).unwrap();
             }
         }
         assert!(kept(&whole) == kept(&parted), "step {step}: states");
     }
-    low.extend(high);
-    assert!(one == low, "RAM");
+    let joined: Vec<u8> = parts.into_iter().flat_map(|(_, bytes)| bytes).collect();
+    assert!(one == joined, "RAM");
     assert!(done > 1_000 && stopped > 1_000, "{done} done, {stopped} stopped");
+}
+
+#[test]
+fn two_regions_are_as_one_window() {
+    as_one_window(2 * MIB, &[MIB]);
+}
+
+/// Banks that adjoin within an access of one page, and in pages 1, 3 and 9 within a line; all of RAM ends within one too.
+#[test]
+fn banks_that_adjoin_anywhere_are_as_one_window() {
+    as_one_window(2 * MIB - 0x7E5, &[0x8803, MIB + 0x7FF, MIB + 0x802, MIB + 0x804]);
 }
 
 /// A window, a region and a device, which counts what it is asked.
@@ -225,4 +249,74 @@ fn an_access_that_reaches_into_a_region_stays_an_abort() {
         stop(core.load_from(&mut banks[..], 0x1002, Width::Word)),
         (0x1002, 0x10)
     );
+}
+
+/// DC ZVA on a line that a region, or all RAM, begins or ends in: what is before the first eight bytes that RAM has not all
+/// of is zero, and the abort is theirs.
+#[test]
+fn a_line_is_zeroed_as_far_as_ram_goes() {
+    let (mut window, mut below, mut after) = (vec![7; 0x18], vec![7; 0x21], vec![7; 0x40]);
+    let mut core = Core::new();
+    core.set_general(1, 0x1010).unwrap();
+    // 0x1000 to 0x1020, which a region has, the window to 0x1038, and another region from 0x1038 to 0x1078.
+    let mut zeroed = |below_at, after_at| {
+        for bytes in [&mut window, &mut below, &mut after] {
+            bytes.fill(7);
+        }
+        let mut banks = [
+            Ram::new(0x1020, &mut window),
+            Ram::new(below_at, &mut below),
+            Ram::new(after_at, &mut after),
+        ];
+        let done = core
+            .system_on(&mut banks[..], SystemOperation::dc_zva(1))
+            .map(|()| 0);
+        let zeros = [&window, &below, &after].map(|bytes| bytes.iter().filter(|&&b| b == 0).count());
+        (done, core.abort_pa(), zeros)
+    };
+    assert_eq!(zeroed(0x0FFF, 0x1038), (Ok(0), 0x1000, [0x18, 0x20, 8]));
+    let (done, abort_pa, zeros) = zeroed(0x0FFF, 0x1039);
+    assert_eq!(
+        (stop(done), abort_pa, zeros),
+        ((0x1038, 0x10), 0x1038, [0x18, 0x20, 0])
+    );
+    let (done, abort_pa, zeros) = zeroed(0x0FFA, 0x1038);
+    assert_eq!(
+        (stop(done), abort_pa, zeros),
+        ((0x1018, 0x10), 0x1018, [0, 0x18, 0])
+    );
+    let (done, abort_pa, zeros) = zeroed(0x1008, 0x1038);
+    assert_eq!((stop(done), abort_pa, zeros), ((0x1000, 0x10), 0x1000, [0, 0, 0]));
+}
+
+/// No device is asked for an access whose first and last bytes lie in no RAM, where one between does.
+#[test]
+fn a_region_within_an_access_is_ram() {
+    /// RAM of two bytes within a device.
+    struct Island([u8; 2]);
+    impl Memory for Island {
+        fn ram(&mut self) -> Ram<'_> {
+            Ram::new(0, &mut [])
+        }
+        fn region(&mut self, address: u64) -> Option<Ram<'_>> {
+            (0x1003..0x1005)
+                .contains(&address)
+                .then(|| Ram::new(0x1003, &mut self.0))
+        }
+        fn read(&mut self, address: u64, _: Width) -> Option<u64> {
+            assert!(address == 0x1008);
+            Some(9)
+        }
+        fn write(&mut self, address: u64, _: Width, _: u64) -> bool {
+            address == 0x1008
+        }
+    }
+    let (mut island, mut core) = (Island([1, 2]), Core::new());
+    let wide = core.load_from(&mut island, 0x1000, Width::Double);
+    assert_eq!(stop(wide), (0x1000, 0x10));
+    let wide = core.store_to(&mut island, 0x1000, Width::Double, 0).map(|()| 0);
+    assert_eq!(stop(wide), (0x1000, 0x10));
+    assert_eq!(core.load_from(&mut island, 0x1003, Width::Half), Ok(0x201));
+    assert_eq!(core.load_from(&mut island, 0x1008, Width::Double), Ok(9));
+    assert_eq!(core.store_to(&mut island, 0x1008, Width::Word, 1), Ok(()));
 }
