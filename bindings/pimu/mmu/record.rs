@@ -49,11 +49,6 @@ impl Recording {
         }
     }
 
-    /// A line of an operation that reads tables: at its end stands how many descriptors.
-    pub(super) fn operation(&mut self, line: fmt::Arguments) {
-        self.write(line, Some(0));
-    }
-
     /// The operation whose line was written last read so many descriptors.
     pub(super) fn reads(&mut self, reads: u64) {
         if let Some(open) = self.0.as_mut().and_then(|trace| trace.open.as_mut()) {
@@ -84,7 +79,7 @@ impl Recording {
         }
     }
 
-    /// An access that is about to be made over this RAM.
+    /// A line of an operation that is about to be made over this RAM: at its end stands how many descriptors it read.
     pub(super) fn access(&mut self, ram: &Ram, line: fmt::Arguments) {
         match &mut self.0 {
             Some(trace) if !trace.begun => {
@@ -95,7 +90,7 @@ impl Recording {
             }
             _ => {}
         }
-        self.operation(line);
+        self.write(line, Some(0));
     }
 
     /// An invalidation, as a `TLBI` that asks for it: at a level and in a regime that may.

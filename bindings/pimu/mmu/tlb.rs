@@ -334,7 +334,7 @@ impl Tlb {
     #[inline(always)]
     pub(super) fn at(&mut self, ram: &mut Ram, operation: SystemOperation, va: u64) -> u64 {
         if self.records() {
-            self.note_at(operation, va);
+            self.note_at(ram, operation, va);
         }
         self.core.set_general(0, va).expect("a general register");
         self.core.system(ram, operation).expect("exec judged the level");
@@ -344,7 +344,7 @@ impl Tlb {
 
     #[cold]
     #[inline(never)]
-    fn note_at(&mut self, operation: SystemOperation, va: u64) {
+    fn note_at(&mut self, ram: &Ram, operation: SystemOperation, va: u64) {
         let SystemOperation {
             op1,
             crn,
@@ -353,8 +353,7 @@ impl Tlb {
             rt,
         } = operation;
         self.recording.line(format_args!("x 0 {va:x}"));
-        self.recording
-            .operation(format_args!("sys {op1:x} {crn:x} {crm:x} {op2:x} {rt:x}"));
+        self.note(ram, format_args!("sys {op1:x} {crn:x} {crm:x} {op2:x} {rt:x}"));
     }
 
     /// Whether accesses are recorded.

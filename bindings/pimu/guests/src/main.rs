@@ -2,6 +2,7 @@
 mod accesses;
 mod apart;
 mod bus;
+mod copied;
 mod directed;
 mod encode;
 mod pair;
@@ -155,7 +156,7 @@ fn main() {
         Some("random") => wander::seeds::<Proved>(number(1, 1), number(2, 200), number(3, 4000)),
         Some("record") if words.len() == 3 => record(&words[1], &words[2]),
         Some("recorded") if words.len() == 5 => {
-            wander::recorded(number(1, 1), number(2, 1), number(3, 1), &words[4])
+            copied::check(&words[4]) + wander::recorded(number(1, 1), number(2, 1), number(3, 1), &words[4])
         }
         Some("speed") => speed::table(number(1, 4_000_000), words.get(2).map_or("", String::as_str)),
         Some("loops") => {
