@@ -104,6 +104,9 @@ fn record(name: &str, path: &str) -> usize {
     wrong
 }
 
+/// Where the loop is recorded whose core is copied.
+const COPIED: &str = "target/recorded/copied.trace";
+
 /// Each mistake of mistakes.txt: the first guest that shows it, also where it ends with that step. How many none does.
 fn mistakes(seeds: u64) -> usize {
     let list = include_str!("../../mistakes.txt");
@@ -117,11 +120,8 @@ fn mistakes(seeds: u64) -> usize {
     let mut missed = 0;
     for (n, name) in (1..).zip(&names) {
         mistaken::MISTAKE.store(n, Ordering::Relaxed);
-        let caught: Vec<&str> = guests
-            .iter()
-            .filter(|g| play::<Mistaken>(g, None).is_err())
-            .map(|g| g.name)
-            .collect();
+        let played = guests.iter().filter(|g| play::<Mistaken>(g, None).is_err());
+        let caught = played.count() + usize::from(copied::by_hints(COPIED).is_err());
         let differs = |seed| {
             let way = wander::seed::<Mistaken>(seed, 4000);
             way.differs.is_some().then_some((seed, way.steps))
@@ -129,7 +129,7 @@ fn mistakes(seeds: u64) -> usize {
         let seed = (1..seeds).find_map(differs);
         // A guest whose last step alone shows it shows it too.
         let last = seed.is_none_or(|(seed, steps)| wander::seed::<Mistaken>(seed, steps).differs.is_some());
-        if caught.is_empty() && seed.is_none() || !last {
+        if caught == 0 && seed.is_none() || !last {
             missed += 1;
         }
         let seed = seed.map_or("no seed".into(), |(seed, steps)| {
@@ -140,7 +140,7 @@ fn mistakes(seeds: u64) -> usize {
         } else {
             ", MISSED where that step is the last"
         };
-        println!("{n:2} {name}: {} directed, {seed}{last}", caught.len());
+        println!("{n:2} {name}: {caught} directed, {seed}{last}");
     }
     println!("{} of {} mistakes caught", names.len() - missed, names.len());
     missed
@@ -156,7 +156,7 @@ fn main() {
         Some("random") => wander::seeds::<Proved>(number(1, 1), number(2, 200), number(3, 4000)),
         Some("record") if words.len() == 3 => record(&words[1], &words[2]),
         Some("recorded") if words.len() == 5 => {
-            copied::check(&words[4]) + wander::recorded(number(1, 1), number(2, 1), number(3, 1), &words[4])
+            copied::check(COPIED) + wander::recorded(number(1, 1), number(2, 1), number(3, 1), &words[4])
         }
         Some("speed") => speed::table(number(1, 4_000_000), words.get(2).map_or("", String::as_str)),
         Some("loops") => {

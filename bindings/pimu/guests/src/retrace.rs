@@ -1,11 +1,11 @@
 //! A recorded trace, carried out on a fresh core: it must end as the core that was recorded.
 use crate::bus::Bus;
-use crate::side::{Cache, Side};
+use crate::side::Side;
 use a72::{registers::Key, Access, Core, Ram, SystemOperation};
 
 /// Carries out a trace and compares: what each operation read of the tables, and at the end RAM, live entries, hints,
 /// hits and walks.
-pub fn check(path: &str, recorded: &proved::aarch64::Cpu, bus: &Bus) -> Result<usize, String> {
+pub fn check<S: Side>(path: &str, recorded: &S, bus: &Bus) -> Result<usize, String> {
     let text = std::fs::read_to_string(path).map_err(|e| format!("{path}: {e}"))?;
     let (mut core, mut base, mut bytes) = (Core::new(), 0, Vec::new());
     for (n, line) in (1..).zip(text.lines()) {
