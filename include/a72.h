@@ -15,14 +15,15 @@
  * table walk 0x14 to 0x17). Memory is little-endian.
  *
  * What is asked. The core is one that a72_init or a72_copy made, and one call at a time uses it: the library takes it
- * for its own as long as a call lasts, also where it only reads, so no core is const. No pointer is null, `ram`
- * neither where `len` is 0; each is to as much memory as is said, and what a function writes overlaps nothing else
+ * for its own as long as a call lasts, also where it only reads, so no core is const. No pointer is null, also where
+ * the length beside it is 0; each is to as much memory as is said, and what a function writes overlaps nothing else
  * that it is lent. Of values nothing is asked: whatever numbers, words and bytes stand there, each function ends and
  * stays inside. Cores in several threads are independent; several cores over one window take turns.
  *
  * Numbers. Each function that may be refused gives a number: A72_DONE, that of a check that the call misses,
  * A72_NAMES_NOTHING, A72_UNDEFINED, A72_UNIMPLEMENTED, or A72_FAULT plus the status of a fault. From 1 to 66 nothing
- * is written: not the core, not RAM, not the answer or counts. A fault has been taken by nobody: a72_abort takes it.
+ * is written: not the core, not RAM, not the answer or counts; but with A72_PAGE_FAULTS a72_windows says which page it
+ * is. A fault has been taken by nobody: a72_abort takes it.
  *
  * Answers. What a call has to say beside its number stands in an a72_answer. With A72_DONE and with a fault its `reads`
  * is always written; its `value` where this is said, and otherwise it stays.
@@ -157,7 +158,9 @@ uint64_t a72_word(a72_core *core, size_t place);
 #define A72_CHECK_NUMBER 5 /* the number of a general register is above 31 */
 #define A72_CHECK_KEY 6    /* the key is that of no register kept */
 #define A72_CHECK_RANGE 7  /* a census of more than A72_MOST_PAGES pages, or of a range that passes 2^64 */
-#define A72_LAST_CHECK 63  /* 8 to 63 are kept for checks to come */
+#define A72_CHECK_LIST 9   /* the bytes are no list of windows */
+#define A72_PAGE_FAULTS 10 /* a page of a list of windows faults: the one number from 1 to 66 that writes */
+#define A72_LAST_CHECK 63  /* 8, and 11 to 63, are kept for checks to come */
 #define A72_NAMES_NOTHING 64 /* a kind of access, a mark, a regime, an exception or an operation's code is none */
 #define A72_UNDEFINED 65
 #define A72_UNIMPLEMENTED 66
@@ -182,6 +185,10 @@ static inline uint8_t a72_status(uint64_t number) { return (uint8_t)(number - A7
 #define A72_COUNT_FLAT 128
 
 #define A72_MOST_PAGES 65536
+
+/* A list of windows: at most so many, of at most so many pages each. */
+#define A72_MOST_WINDOWS 64
+#define A72_MOST_WINDOW_PAGES 16
 
 /* An exception, four words: its code and what is said beside it; the others are not read. */
 #define A72_EXCEPTION_UNDEFINED 0
@@ -360,6 +367,19 @@ uint64_t a72_abort(a72_core *core, const uint64_t exception[4]);
 uint64_t a72_census(a72_core *core, uint64_t first, uint64_t pages, uint64_t counts[A72_COUNTS],
                     uint64_t base, const uint8_t *ram, size_t len);
 
+/* Which two windows of a list have a physical page in common now. The list is little-endian: two bytes, how many windows
+ * it has, at most A72_MOST_WINDOWS; then the first address of each, eight bytes, that of a page of 4 KiB; then how many
+ * pages each has, two bytes, 1 to A72_MOST_WINDOW_PAGES; and nothing more. A window may end at 2^64. Each page is
+ * translated afresh by its own address, for a privileged write in the regime of the present level: at EL0, and with the
+ * mark (a72_mark), too. Windows and pages are counted from 0. Neither core nor RAM changes, and the cache is not asked.
+ *   A72_DONE: `out` is 1, i, k: of the windows i < k that share a page those with the least i, and then the least k. It
+ *     is 0, 0, 0 where no two share one. A page that lies twice in one window does not count.
+ *   A72_CHECK_LIST: the bytes are no such list. With this, A72_CHECK_LEVEL and A72_CHECK_WINDOW `out` stays.
+ *   A72_PAGE_FAULTS: `out` is the window, the page in it and the status of the first page that faults, by window and
+ *     then page, also where windows before it share one. */
+uint64_t a72_windows(a72_core *core, const uint8_t *list, size_t list_len, uint64_t out[3], uint64_t base,
+                     const uint8_t *ram, size_t len);
+
 /* One walk of the tables without a core, for those who keep a cache of their own. `registers`: SCTLR, TCR and
  * TTBR0 of the regime, TTBR1_EL1, SCR_EL3, HCR_EL2. `regime`: 1 EL1 and EL0, 2 EL2, 3 EL3. `va` has no tag.
  * `leaf`: output address, descriptor, permissions (as in an entry), level, 1 where it holds for every ASID, and how
@@ -386,6 +406,7 @@ uint64_t a72_step(const uint64_t op[8], a72_core *core, uint64_t base, uint8_t *
 #define A72_OP_GENERAL 11  /* number, value */
 #define A72_OP_ABORT 12    /* the four words of an exception */
 #define A72_OP_CENSUS 13   /* first address, pages: whether it is done; the counts are a72_census's */
+#define A72_OP_WINDOWS 14  /* none: whether it misses a check; the list is a72_windows's, and what is found */
 
 /* The five words of an answer: its code and what is said beside it, all else 0; the fifth has the descriptors read, as
  * an a72_answer has them, and 0 where the operation is refused. */

@@ -38,12 +38,12 @@ On the Rust's side pimu's own function, behind one call that is not inlined, wit
 a load or store of the size). The checks 1 to 7 are not made there: pimu has none. A register write is `write_reg` with the scope's
 rule. On the library's side the exported function on a core behind its handle, with its checks.
 
-So the library does more: it checks level, window, kind, size and range, and takes and gives numbers. For translations, loads, stores and censuses a third column has
+So the library does more: it checks level, window, kind, size and range, and takes and gives numbers. For translations, loads, stores, censuses and lists of windows a third column has
 the *checked Rust*: the same function of pimu behind the library's own signature, with the same checks before it (`oracle/harness/src/bench/checked.rs`).
 That is what a caller of the Rust would have to write for the same promise, and the ratio beside it is that of equal work. The bars are held to
 the bare function all the same.
 
-Before a case is timed both sides make 2,016 calls of it (of a census one), and answers, whole state and RAM are compared after each of 63 runs of them; again at the
+Before a case is timed both sides make 2,016 calls of it (of a census one, of long lists of windows six), and answers, whole state and RAM are compared after each of 63 runs of them; again at the
 end. One argument of each call alternates between two values, so that a case stays what its name says:
 
 | Case | How it stays so |
@@ -57,11 +57,12 @@ end. One argument of each call alternates between two values, so that a case sta
 | TLBI | 1,024 live entries at the start |
 | lent | the translations of the same names again, under the bars of a core that was lent by reference inside the library |
 | census | 65,536 pages, from two addresses of one page; the Rust's side is a loop over `stage1_on`, `untag` and `walk` page by page into 129 counts; times and instructions are those of one page |
+| windows | 64 windows of sixteen pages, 1,024 pages by three tables and 516,096 comparisons; all apart, or the last window the first one again; sixteen windows of one page; each list there and turned round. The Rust's side is a list's bytes, `stage1_on`, `untag` and `walk` page by page and the permission bit, and then each pair by `contains` (`oracle/harness/src/rust/windows.rs`): pimu has no such function |
 | frames | a total of hours, and the largest of all; the Rust's side is one function of rate and total, by a product of 128 bits, divided, and what that leaves (`bench/rust.rs`): pimu has no such function. A function of 48,000 a second alone is compiled to a division of 64 bits: 1.94 ns in a run in which the library took 2.58 |
 | register write | TCR_EL1 between two values; TTBR0_EL1 between two ASIDs; VBAR_EL1; SCTLR_EL1 to what it is |
 
 The bars: hint hits 1.05, on `fetch_pa` 1.5; entry hits of translate, data_pa and fetch_pa 1.1, of load, store and fetch 1.15; walks and faults of translations 1.05; stage 1 off 1.15; split accesses,
-TLBI, register writes and settings 1.2; DC ZVA 1.0; abort entry 1.6; the census 0.95; sample frames 1.0; on a lent core hint hit 1.3, entry hit 1.2, walks 0.95. The other cases have none. Until November 2026 hint hits
+TLBI, register writes and settings 1.2; DC ZVA 1.0; abort entry 1.6; the census 0.95; sample frames 1.0; lists of windows 1.1; on a lent core hint hit 1.3, entry hit 1.2, walks 0.95. The other cases have none. Until November 2026 hint hits
 had 0.95 (translations) and 1.0 (loads and stores), entry hits of translations 1.05, a lent core 1.5, 1.8 and 1.5, and fetch, data_pa, DC ZVA, abort entry and settings none.
 
 ## How it was run
@@ -72,7 +73,7 @@ had 0.95 (translations) and 1.0 (loads and stores), entry hits of translations 1
 
 builds `bench` with the library, counts instructions (`ir.sh`: valgrind's callgrind, two runs of different length for each case and side), runs
 `bench time 900` in a thread of 2 MiB of stack, reads the frames (`stack.sh`) and writes this file. 900 runs of each side in turn, in six passes over
-all cases, each run of about 40 µs (of a census a tenth as many runs, of two calls each); the time of no call is subtracted. A call takes whole cycles, so that small ratios move in steps.
+all cases, each run of about 40 µs (of a census and of long lists of windows a tenth as many runs, of two calls or a few); the time of no call is subtracted. A call takes whole cycles, so that small ratios move in steps.
 TEXT
     echo
     echo "This run: $(date -u +%F), $(nproc) cores, shared, $machine.${NOTE:+ $NOTE}"

@@ -1,6 +1,6 @@
 #!/bin/sh
 # The C interface is one wherever it is written: the places of a saved core's words, the memory of a core, the numbers that the functions give, the counts of
-# a census, the fields of an answer, the keys of the registers, the system operations, and each function's parameters. Compares the library (crates/), include/a72.h, bindings/rust/src and bindings/rust-archive/src, line by line;
+# a census, the most windows of a list and their most pages, the fields of an answer, the keys of the registers, the system operations, and each function's parameters. Compares the library (crates/), include/a72.h, bindings/rust/src and bindings/rust-archive/src, line by line;
 # of keys and operations also tests/names.txt, which tests/tool.sh holds the tool to. Wants nothing.
 # Its last line is 'N lines are one in all tables'; where two differ it names both and the place, and ends with 1.
 set -eu
@@ -62,13 +62,13 @@ awk '/^#define A72_(CORE_SIZE|CORE_ALIGN|HANDLE_SIZE) [0-9]+$/ { sub("A72_", "",
 awk "$constants" bindings/rust-archive/src/held.rs | table bindings/rust-archive/src/held.rs
 for other in $header bindings/rust-archive/src/held.rs; do one memory crates/core_static/src/state.rt "$other"; done
 
-# Numbers that the functions give: those of bindings/rust/src/number.rs, and of the checks by their order in answer.rs.
+# Numbers that the functions give: those of bindings/rust/src/number.rs, and of the checks of a call by their order in answer.rs.
 awk "$constants" bindings/rust/src/number.rs | table bindings/rust/src/number.rs
-awk '/^#define A72_(DONE|LAST_CHECK|NAMES_NOTHING|UNDEFINED|UNIMPLEMENTED|FAULT) / { sub("A72_", "", $2); print $2, $3 }' $header | table $header
+awk '/^#define A72_(DONE|CHECK_LIST|PAGE_FAULTS|LAST_CHECK|NAMES_NOTHING|UNDEFINED|UNIMPLEMENTED|FAULT) / { sub("A72_", "", $2); print $2, $3 }' $header | table $header
 one number bindings/rust/src/number.rs $header
 awk '/^pub enum Check / { on = 1 } on && /^    [A-Z][a-z]+( = 1)?,$/ { sub(",", "", $1); print "CHECK_" toupper($1), ++n } /^}/ { on = 0 }' \
     bindings/rust/src/answer.rs | table bindings/rust/src/answer.rs
-awk '/^#define A72_CHECK_/ { sub("A72_", "", $2); print $2, $3 }' $header | table $header
+awk '/^#define A72_CHECK_/ && $2 != "A72_CHECK_LIST" { sub("A72_", "", $2); print $2, $3 }' $header | table $header
 one number bindings/rust/src/answer.rs $header
 
 # The counts of a census: NAME NUMBER.
@@ -76,6 +76,11 @@ awk "$constants" bindings/rust/src/count.rs | table bindings/rust/src/count.rs
 awk '/^#define A72_(COUNTS|COUNT_[A-Z]+|MOST_PAGES) [0-9]+/ { sub(/^A72_(COUNT_)?/, "", $2); print $2, $3 }' $header | table $header
 one count bindings/rust/src/count.rs $header
 counts=$(sed -n 's/^COUNTS //p' "$work/$header")
+
+# A list of windows: NAME NUMBER.
+awk "$constants" crates/windows/src/list.rt | sed 's/^MOST_PAGES/MOST_WINDOW_PAGES/' | table crates/windows/src/list.rt
+awk '/^#define A72_MOST_WINDOW/ { sub("A72_", "", $2); print $2, $3 }' $header | table $header
+one list crates/windows/src/list.rt $header
 
 # The fields of an answer, in their order: NAME TYPE.
 awk '/^pub struct Report / { on = 1; next } /^}/ { on = 0 } on && /^    pub / { gsub(/[:,]/, ""); print $2, $3 }' crates/call_words/src/reply.rt |

@@ -1,6 +1,6 @@
 /* A core in C: tables that map pages to themselves, a load, a store, a fault that the guest takes, a TLBI, a census of the
- * pages, what the cache counted at each level, and of each access how many descriptors its walks read; then a number of
- * cycles as sample frames. */
+ * pages, which of a list of windows share one, what the cache counted at each level, and of each access how many
+ * descriptors its walks read; then a number of cycles as sample frames. */
 #include "a72.h"
 
 #include <inttypes.h>
@@ -95,6 +95,33 @@ static void census(uint64_t first, uint64_t pages) {
     printf(" flat %" PRIu64 "\n", counts[A72_COUNT_FLAT]);
 }
 
+/* The low bytes of a number, little-endian, at the end of a list; the end after them. */
+static uint8_t *append(uint8_t *end, uint64_t value, int bytes) {
+    for (int i = 0; i < bytes; i++)
+        *end++ = (uint8_t)(value >> 8 * i);
+    return end;
+}
+
+/* Which two of some windows share a physical page: their list is their number, then where each begins, then how many
+ * pages each has. */
+static void windows(unsigned count, const uint64_t starts[], const uint64_t pages[]) {
+    uint8_t list[2 + 10 * A72_MOST_WINDOWS], *end = append(list, count, 2);
+    uint64_t out[3];
+    for (unsigned i = 0; i < count; i++)
+        end = append(end, starts[i], 8);
+    for (unsigned i = 0; i < count; i++)
+        end = append(end, pages[i], 2);
+    uint64_t number = a72_windows(core, list, (size_t)(end - list), out, BASE, ram, LEN);
+    if (number == A72_PAGE_FAULTS)
+        printf("window %" PRIu64 ", page %" PRIu64 ": fault, status 0x%02" PRIx64 "\n", out[0], out[1], out[2]);
+    else if (number != A72_DONE)
+        printf("refused, number %" PRIu64 "\n", number);
+    else if (out[0] == 1)
+        printf("windows %" PRIu64 " and %" PRIu64 " share a physical page\n", out[1], out[2]);
+    else
+        printf("no two of %u windows share a physical page\n", count);
+}
+
 /* A number of cycles as sample frames, at both rates. */
 static void frames(uint64_t cycles) {
     uint64_t cycles_left, parts_left;
@@ -142,6 +169,11 @@ int main(void) {
     load("load at EL0", va, 4); /* the entry says no: a hit of EL0 */
     a72_level(core, 1);
     census(BASE - 0x1000, 0x200);
+    const uint64_t starts[] = {BASE + 0x10000, BASE + 0x31000, BASE + 0x41000, BASE + 0xF0000};
+    const uint64_t pages[] = {16, 16, 2, 16};
+    windows(2, starts, pages);
+    windows(3, starts, pages); /* the page that moved lies in two */
+    windows(4, starts, pages);
     show(va);
     frames(1500034014);
     return 0;

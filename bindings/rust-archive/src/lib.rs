@@ -26,6 +26,7 @@ mod held;
 mod library;
 mod raw;
 mod view;
+mod windows;
 mod words;
 
 pub use crate::core::Core;
@@ -34,5 +35,6 @@ pub use crate::frames::Rate;
 pub use plain::{count, number, place, registers};
 pub use plain::{
     Access, Broadcast, Census, Check, Counters, Entry, Exception, Fault, FetchHint, Flags, Frames, Hint,
-    Level, LevelCounters, Ram, Report, Rights, Status, Stop, SystemOperation, Width, MOST_PAGES, WORDS,
+    Level, LevelCounters, Malformed, PageFault, Ram, Report, Rights, Status, Stop, SystemOperation, Width,
+    WindowList, WindowsError, MOST_PAGES, MOST_WINDOWS, MOST_WINDOW_PAGES, WORDS,
 };

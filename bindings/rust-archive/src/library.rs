@@ -100,6 +100,15 @@ extern "C" {
         ram: *const u8,
         len: usize,
     ) -> u64;
+    pub fn a72_windows(
+        core: *mut Handle,
+        list: *const u8,
+        list_len: usize,
+        out: *mut [u64; 3],
+        base: u64,
+        ram: *const u8,
+        len: usize,
+    ) -> u64;
     pub fn a72_walk(
         registers: *const [u64; 6],
         regime: u64,

@@ -108,6 +108,24 @@ pub fn census(core: &Held, first: u64, pages: u64, base: u64, ram: &[u8]) -> (u6
     (n, counts)
 }
 
+/// What is found or faults, zeros where nothing is written.
+pub fn windows(core: &Held, list: &[u8], base: u64, ram: &[u8]) -> (u64, [u64; 3]) {
+    let mut out = [0; 3];
+    // Sound: a core, slices with their own lengths, and a local array.
+    let n = unsafe {
+        library::a72_windows(
+            core.handle(),
+            list.as_ptr(),
+            list.len(),
+            &mut out,
+            base,
+            ram.as_ptr(),
+            ram.len(),
+        )
+    };
+    (n, out)
+}
+
 #[inline]
 pub fn register(core: &mut Held, key: u64, value: u64) -> u64 {
     // Sound: a core.

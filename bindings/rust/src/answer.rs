@@ -1,6 +1,7 @@
 //! What an operation reports, and what stops it.
 use crate::number::{FAULT, UNDEFINED, UNIMPLEMENTED, status};
 use crate::operation::{Access, Exception, Status};
+use crate::stage1::cpu::check;
 use core::fmt::{self, Display, Formatter};
 
 /// What an operation did for its answer ([`crate::Core::report`]).
@@ -36,11 +37,18 @@ impl Check {
         self as u64
     }
 
-    fn of(number: u64) -> Option<Check> {
+    /// The check of this number, 1 to 7.
+    pub fn from_number(number: u64) -> Option<Check> {
         use Check::*;
         [Level, Window, Size, Field, Number, Key, Range]
             .into_iter()
             .find(|check| check.number() == number)
+    }
+}
+
+impl From<check::Check> for Check {
+    fn from(missed: check::Check) -> Check {
+        Check::from_number(missed.number().into()).expect("the number of a check")
     }
 }
 
@@ -109,7 +117,7 @@ impl Stop {
         match number {
             UNDEFINED => Some(Stop::Undefined),
             UNIMPLEMENTED => Some(Stop::Unimplemented),
-            _ => Check::of(number).map(Stop::Refused),
+            _ => Check::from_number(number).map(Stop::Refused),
         }
     }
 

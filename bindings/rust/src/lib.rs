@@ -1,5 +1,6 @@
 //! Stage 1 address translation of the Cortex-A72: the VMSAv8-64 table walk, its cache (TLB), TLBI, AT, loads, stores
-//! and fetches over one or two pages, exception entry, as pimu does them, and a census of how pages are mapped.
+//! and fetches over one or two pages, exception entry, as pimu does them; a census of how pages are mapped, and which
+//! windows of pages have one in common.
 //!
 //! Its module `stage1`, which is for no caller, is the text of crates in Rattle, Rust with contracts, in which every
 //! function is proved to meet its contract; the contracts are taken away. The rest of this crate gives it types and
@@ -94,6 +95,7 @@ pub mod stage1;
 mod system_operation;
 mod view;
 mod walk;
+mod windows;
 
 pub use crate::core::Core;
 pub use answer::{Check, Fault, Report, Stop};
@@ -109,3 +111,4 @@ pub use stage1::frames::{Frames, Rate};
 pub use system_operation::SystemOperation;
 pub use view::{Broadcast, Counters, Entry, FetchHint, Flags, Hint, LevelCounters};
 pub use walk::{Mapping, Walk};
+pub use windows::{MOST_WINDOW_PAGES, MOST_WINDOWS, Malformed, PageFault, WindowList, WindowsError};

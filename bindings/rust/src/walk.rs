@@ -1,5 +1,5 @@
 //! What the tables say of an address now, by the core's registers: no cache is asked.
-use crate::answer::{Check, Stop};
+use crate::answer::Stop;
 use crate::census::Rights;
 use crate::core::Core;
 use crate::operation::Status;
@@ -38,13 +38,8 @@ impl Core {
     /// asked nor filled, nothing is counted, and rights are shown, not judged.
     pub fn walk(&self, ram: &Ram, va: u64) -> Result<Walk, Stop> {
         let level = self.core.privilege.level;
-        if let Err(missed) = check::with_ram(level, ram.base, ram.bytes.len() as u64) {
-            return Err(Stop::Refused(if missed == check::Check::Level {
-                Check::Level
-            } else {
-                Check::Window
-            }));
-        }
+        check::with_ram(level, ram.base, ram.bytes.len() as u64)
+            .map_err(|missed| Stop::Refused(missed.into()))?;
         Ok(
             match self
                 .core

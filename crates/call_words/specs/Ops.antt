@@ -86,4 +86,5 @@ call_of op =
     else if eqb (get_or op 0 0) 11 then DecodedCall.Known (Call.General (get_or op 1 0) (get_or op 2 0))
     else if eqb (get_or op 0 0) 12 then abort_call (exception_of (get_or op 1 0) (get_or op 2 0) (get_or op 3 0) (get_or op 4 0))
     else if eqb (get_or op 0 0) 13 then DecodedCall.Known (Call.Census (get_or op 1 0) (get_or op 2 0))
+    else if eqb (get_or op 0 0) 14 then DecodedCall.Known Call.Windows
     else DecodedCall.Unknown

@@ -20,7 +20,8 @@ use Rattle.transparency.specs.Machine.{machine}
 use Rattle.transparency.specs.Beside.{core_after, bare_after}
 use Rattle.transparency.specs.Replies.{bare_reply}
 use Rattle.transparency.specs.Census.{bare_counts}
-use Rattle.transparency.proofs.Census.{census-after, census-reply}
+use Rattle.transparency.proofs.Census.{census-after}
+use Rattle.transparency.proofs.Looks.{look-reply}
 use Rattle.call_words.specs.Replies.{code_by}
 use Rattle.core_calls.specs.Promise.{CensusPromise}
 
@@ -43,7 +44,7 @@ module _ (first pages base : ℕ) (ram : List ℕ) (c : Core) (old : List ℕ) w
   after n counts en ec list made = (
     ec ∙ ap (λ (d : Core). counts_after d base ram first pages old) made ∙ census-after list (window_of base ram) first pages old,
     en ∙ ap (λ (d : Core). code_by (step_of d base ram (Census first pages)).reply) made
-        ∙ ap code_by (census-reply list (window_of base ram) first pages),
+        ∙ ap code_by (look-reply list (window_of base ram) (Census first pages) refl),
   )
 
   pub promise-refused : (n : ℕ) → n ≡ missed_of c.privilege.level base (length ram) (Census first pages) → (n ≡ 0 → ⊥)

@@ -1,4 +1,5 @@
 mod Unchanged
 pub mod Promised
 pub mod Census
+pub mod Windows
 pub mod Said

@@ -1,2 +1,4 @@
 pub mod Named
+pub mod Windows
+pub mod WindowsRows
 pub mod Promise

@@ -17,6 +17,7 @@ use Rattle.call_words.specs.declared.reply.Report.{Report}
 use Rattle.call_words.specs.declared.op.DecodedCall.{DecodedCall}
 use Rattle.call_words.specs.declared.op.DecodedCall.TheVariants.{Known, Unknown}
 use Rattle.quick.specs.Says.{unread}
+use Rattle.core_calls.specs.Windows.{found_number, found_words, windows_in, bare_windows}
 use Rattle.core_calls.specs.Named.{call_number, call_value, call_reads, call_ram, call_core, call_code, call_words}
 
 -- FAITHFULNESS
@@ -81,3 +82,14 @@ pub record CensusPromise (first pages base : ℕ) (ram : List ℕ) (c : Core) (n
   pub faithful : (list : List (Lent real machine)) → c ≡ core_after list
       → (counts ≡ bare_counts (bare_after list) (ram_of base ram) first pages old)
       × (n ≡ code_by (bare_reply (bare_after list) (ram_of base ram) (Census first pages)).reply)
+
+-- Windows, which are lent the core shared: the number n, and three words, which were old.
+--   unchanged   1, 2 and 9 say that no word was written
+--   faithful    whatever list of calls left the core: number and words are those of the core without a cache
+pub record WindowsPromise (bytes : List ℕ) (base : ℕ) (ram : List ℕ) (c : Core) (n : ℕ) (old words : List ℕ) : Type 0 where
+  pub code : n ≡ found_number (windows_in c base ram bytes)
+  pub told : words ≡ found_words (windows_in c base ram bytes) old
+  pub unchanged : 0 < n → n < 10 → words ≡ old
+  pub faithful : (list : List (Lent real machine)) → c ≡ core_after list
+      → (n ≡ found_number (bare_windows (bare_after list) (ram_of base ram) bytes))
+      × (words ≡ found_words (bare_windows (bare_after list) (ram_of base ram) bytes) old)

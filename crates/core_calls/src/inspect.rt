@@ -2,12 +2,14 @@
 ghost use Rattle.std.specs.Prelude.{◌≡◌};
 ghost use Rattle.cpu.specs.Check.{missed_of};
 ghost use Rattle.cpu.specs.declared.call.Call.TheVariants as Call;
-ghost use Rattle.core_calls.specs.Promise.{CensusPromise};
+ghost use Rattle.core_calls.specs.Promise.{CensusPromise, WindowsPromise};
+ghost use Rattle.core_calls.specs.Windows.{found_number, found_words};
 
 use census::count;
 use cpu::{Core, check};
 use sysreg::regs::Regime;
 use walk::regime::Bank;
+use windows::{Pair, WindowsError};
 
 // The number of the first check that a census misses, or 0.
 fn missed_check(core: &Core, base: u64, len: u64, first: u64, pages: u64) -> u8
@@ -36,4 +38,35 @@ pub fn census(
     let bank = Bank::new(&core.control, regime);
     count::count(bank, regime, first, pages, base, ram, counts);
     0
+}
+
+// The number of what windows find; in `out` its words.
+fn tell(found: Result<Option<Pair>, WindowsError>, out: &mut [u64; 3]) -> u64
+    ensures number { result ≡ found_number found }
+    ensures words { out.new ≡ found_words found out.old }
+{
+    match found {
+        Ok(Some(pair)) => {
+            *out = [1, pair.first, pair.second];
+            0
+        }
+        Ok(None) => {
+            *out = [0, 0, 0];
+            0
+        }
+        Err(WindowsError::Page(e)) => {
+            *out = [e.window, e.page, e.fault.fsc as u64];
+            10
+        }
+        Err(error) => error.number() as u64,
+    }
+}
+
+/// Which two windows of a list share a physical page: 0 and, in `out`, 1 and the first two by their numbers, or three
+/// zeros where no two do; 10 and, in `out`, window, page and status of the first page that faults; or 1, 2 or 9, and no
+/// word is written.
+pub fn windows(core: &Core, list: &[u8], out: &mut [u64; 3], base: u64, ram: &[u8]) -> u64
+    ensures { WindowsPromise list.now base ram.now core.now result out.old out.new }
+{
+    tell(windows::windows(core, base, ram, list), out)
 }

@@ -133,6 +133,7 @@ module _ (b : Bare) (w : WholeRegs b.control b.sys) where
   does-whole m (Call.General n v) = w
   does-whole m (Call.Abort e) = record { control = w.control; sys = entered-whole b.sys _ _ _ _ _ w.sys }
   does-whole m (Call.Census first pages) = w
+  does-whole m Call.Windows = w
 
   step-whole : (m : Ram) (x : Call) → Keeps (bare_step b m x)
   step-whole m x = go (ruling_in b m x)
@@ -172,7 +173,7 @@ made-is-whole _ _ (fresh c e) = ap held e ∙ fresh_whole ∙ sym e
 made-is-whole _ _ (called call base ram c n old new ys d list m p) = on call base ram c d (made-is-whole c list m) p.core
 made-is-whole _ _ (set call base ram c n d list m p) = on call base ram c d (made-is-whole c list m) (p.on base ram 0).core
 made-is-whole _ _ (stepped call base ram c n old v ys d list m p) = on call base ram c d (made-is-whole c list m) p.core
-made-is-whole _ _ (looked first pages base ram c n old counts list m p) = made-is-whole c list m
+made-is-whole _ _ (looked x base ram c list m h) = made-is-whole c list m
 
 pub made-is-saved : made_is_saved
 made-is-saved c list m f = saved_again c f ∙ made-is-whole c list m

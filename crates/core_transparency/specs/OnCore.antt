@@ -1,11 +1,12 @@
 -- Faithfulness of every list of calls. A core after reset that calls then changed, each as its contract promises, is the core after
 -- the list, so that each further call is faithful.
-use Rattle.std.specs.Prelude.{◌≡◌, refl, List, [], ◌∷◌, ◌++◌, ℕ}
+use Rattle.std.specs.Prelude.{◌≡◌, refl, true, List, [], ◌∷◌, ◌++◌, ℕ}
 use Rattle.std.proofs.Common.{sym, ap, ◌∙◌}
 use Rattle.cpu.specs.Core.{fresh_core}
 use Rattle.cpu.specs.declared.Core.{Core}
 use Rattle.cpu.specs.Step.{step_of}
-use Rattle.cpu.proofs.Censuses.{census-core}
+use Rattle.cpu.specs.Inspect.{looks}
+use Rattle.cpu.proofs.Looking.{looking-core}
 use Rattle.cpu.specs.declared.call.Call.{Call}
 use Rattle.cpu.specs.declared.call.Call.TheVariants.{Census}
 use Rattle.history.specs.Calls.{Lent, run}
@@ -30,7 +31,7 @@ abbrev pub added : DecodedCall → ℕ → List ℕ → List (Lent real machine)
 added (Known x) base ram = lent_of base ram x ∷ []
 added Unknown base ram = []
 
--- the core after a list of calls
+-- the core after a list of calls; one that only looks is lent it shared
 pub data Made : Core → List (Lent real machine) → Type 0 where
   fresh : (c : Core) → c ≡ fresh_core → Made c []
   called : (call : DecodedCall) (base : ℕ) (ram : List ℕ) (c : Core) (n : ℕ) (old new : Report) (ys : List ℕ) (d : Core) (list : List (Lent real machine))
@@ -39,9 +40,8 @@ pub data Made : Core → List (Lent real machine) → Type 0 where
       → Made c list → Setting call c n d → Made d (list ++ added call base ram)
   stepped : (call : DecodedCall) (base : ℕ) (ram : List ℕ) (c : Core) (n : ℕ) (old v ys : List ℕ) (d : Core) (list : List (Lent real machine))
       → Made c list → StepPromise call base ram c n old v ys d → Made d (list ++ added call base ram)
-  looked : (first pages base : ℕ) (ram : List ℕ) (c : Core) (n : ℕ) (old counts : List ℕ) (list : List (Lent real machine))
-      → Made c list → CensusPromise first pages base ram c n old counts
-      → Made c (list ++ added (Known (Census first pages)) base ram)
+  looked : (x : Call) (base : ℕ) (ram : List ℕ) (c : Core) (list : List (Lent real machine))
+      → Made c list → looks x ≡ true → Made c (list ++ added (Known x) base ram)
 
 run-append : (c : Core) (l k : List (Lent real machine))
     → run real machine c (l ++ k) ≡ run real machine (run real machine c l) k
@@ -69,8 +69,7 @@ made-core _ _ (fresh c e) = e
 made-core _ _ (called call base ram c n old new ys d list m p) = grown call base ram c d list (made-core c list m) p.core
 made-core _ _ (set call base ram c n d list m p) = grown call base ram c d list (made-core c list m) (p.on base ram 0).core
 made-core _ _ (stepped call base ram c n old v ys d list m p) = grown call base ram c d list (made-core c list m) p.core
-made-core _ _ (looked first pages base ram c n old counts list m p) =
-    grown (Known (Census first pages)) base ram c c list (made-core c list m) (sym (census-core c base ram first pages))
+made-core _ _ (looked x base ram c list m h) = grown (Known x) base ram c c list (made-core c list m) (sym (looking-core c base ram x h))
 
 -- THE THEOREM: on such a core each call that its contract promises is faithful.
 

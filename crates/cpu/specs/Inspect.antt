@@ -1,13 +1,20 @@
--- What a census of the core finds, beside its reply; core and RAM stay.
-use Rattle.std.specs.Prelude.{ℕ, List, replicate}
+-- Calls that only look: core and RAM stay. And what a census of the core finds, beside its reply.
+use Rattle.std.specs.Prelude.{ℕ, Bool, true, false, List, replicate}
 use Rattle.word.specs.Ram.{word_at}
 use Rattle.census.specs.Count.{census_at}
 use Rattle.cpu.specs.declared.Core.{Core}
-use Rattle.cpu.specs.declared.call.Call.TheVariants.{Census}
+use Rattle.cpu.specs.declared.call.Call.{Call}
+use Rattle.cpu.specs.declared.call.Call.TheVariants.{Census, Windows}
 use Rattle.cpu.specs.declared.inspect.Censused.{Censused}
 use Rattle.cpu.specs.Step.{refused_or, missed_by, step_of}
 
--- under the core's registers, in its level's regime
+-- what they find stands beside the reply
+abbrev pub looks : Call → Bool
+looks (Census first pages) = true
+looks Windows = true
+looks _ = false
+
+-- A CENSUS, under the core's registers, in its level's regime
 abbrev pub counts_of : Core → ℕ → List ℕ → ℕ → ℕ → List ℕ
 counts_of c base ram first pages = census_at c.control c.privilege.level (word_at base ram 8) first pages
 

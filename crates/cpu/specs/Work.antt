@@ -22,7 +22,7 @@ use Rattle.cpu.specs.System.{on_stored, op_of}
 use Rattle.cpu.specs.declared.Core.{Core}
 use Rattle.cpu.specs.declared.call.Call.{Call}
 use Rattle.cpu.specs.declared.call.Call.TheVariants.{Translate, DataPa, FetchPa, Load as LoadCall, Store as StoreCall, Fetch as FetchCall, System}
-use Rattle.cpu.specs.declared.call.Call.TheVariants.{Register, Level, Mark, General, Abort, Census}
+use Rattle.cpu.specs.declared.call.Call.TheVariants.{Register, Level, Mark, General, Abort, Census, Windows}
 
 -- the access of a kind at an address, as the core makes it
 abbrev asked_now : Core → (ℕ → Option ℕ) → Kind → ℕ → Access
@@ -96,6 +96,7 @@ run_work c base ram (Mark mark) w = w
 run_work c base ram (General number value) w = w
 run_work c base ram (Abort e) w = w
 run_work c base ram (Census first pages) w = w
+run_work c base ram Windows w = w
 
 -- a refused call reads nothing
 unfoldable pub step_work : Core → ℕ → List ℕ → Call → Work → Work

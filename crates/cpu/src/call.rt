@@ -25,6 +25,8 @@ pub enum Call {
     Abort(Exception),
     /// the first address and the number of pages; what is counted stands beside the reply
     Census(u64, u64),
+    /// the list of windows stands beside the call, what is found beside the reply
+    Windows,
 }
 
 /// What a call answers.

@@ -85,7 +85,7 @@ pub fn levels(level: u8, requested: u64) -> Result<(), Check>
     Check::Level.unless(3 < level || 3 < requested)
 }
 
-/// Translations and fetch: they are handed RAM and no more.
+/// Translations, fetch and windows: no other check is theirs.
 pub fn with_ram(level: u8, base: u64, len: u64) -> Result<(), Check>
     ensures { number_missed result ≡ first_of (ram_rows level base len) }
 {
@@ -142,9 +142,11 @@ pub fn missed(level: u8, base: u64, len: u64, call: Call) -> Result<(), Check>
     ensures { number_missed result ≡ missed_of level base len call }
 {
     match call {
-        Call::Translate(_, _) | Call::DataPa(_) | Call::FetchPa(_) | Call::Fetch(_) => {
-            with_ram(level, base, len)
-        }
+        Call::Translate(_, _)
+        | Call::DataPa(_)
+        | Call::FetchPa(_)
+        | Call::Fetch(_)
+        | Call::Windows => with_ram(level, base, len),
         Call::Load(_, size) | Call::Store(_, size, _) => {
             sized(level, base, len, size).and(Ok(()))
         }

@@ -22,7 +22,8 @@ use Rattle.tlb.specs.declared.{access.Kind.Kind}
 use Rattle.tlb.specs.Answers.{Answer}
 use Rattle.tlb.specs.declared.access.Kind.TheVariants.{Read, Write, Fetch}
 use Rattle.tlb.proofs.FlatLaws.{flat-failed}
-use Rattle.history.specs.World.{covers, Plain, leaf_answer, regime_now, on_now, untag_now, page_now, uncached}
+use Rattle.tlb.specs.Fresh.{leaf_answer}
+use Rattle.history.specs.World.{covers, Plain, regime_now, on_now, untag_now, page_now, uncached}
 use Rattle.history.specs.History.{Event}
 use Rattle.history.specs.Instance.{Ram, memory_of, real, fresh_plain}
 use Rattle.history.specs.Origin.{From, flat, fails, walks}

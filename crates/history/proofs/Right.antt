@@ -21,7 +21,8 @@ use Rattle.tlb.specs.Model.{tried, keep_hint, keep_fetch, hinted, hintable, tran
 use Rattle.tlb.specs.declared.access.Kind.{Kind}
 use Rattle.tlb.specs.Answers.{Answer}
 use Rattle.tlb.specs.declared.access.Kind.TheVariants.{Read, Write, Fetch}
-use Rattle.history.specs.World.{World, Laws, LeavesEqual, leaf_answer, page_walk, Plain, regime_now, on_now, untag_now, page_now, need_now, uncached}
+use Rattle.tlb.specs.Fresh.{leaf_answer}
+use Rattle.history.specs.World.{World, Laws, LeavesEqual, page_walk, Plain, regime_now, on_now, untag_now, page_now, need_now, uncached}
 use Rattle.tlb.proofs.Misses.{flat-is}
 use Rattle.history.specs.World.{access_of}
 use Rattle.history.proofs.Traced.{Moment, at, Seen, Today, LineFrom, LineOk, allows, HintFrom, flat, kept, HintOk, kind_at, Traced, traced-counting}

@@ -1,19 +1,12 @@
 -- The core without a cache answers by the fresh answer of the address (walk/specs/Fresh.antt), which AT and the page
 -- census go by too.
-use Rattle.std.specs.Prelude.{ℕ, Ok}
+use Rattle.std.specs.Prelude.{ℕ}
 use Rattle.walk.specs.Regime.{bank_of}
 use Rattle.walk.specs.Fresh.{fresh_of}
 use Rattle.walk.specs.declared.{fresh.Fresh.Fresh}
-use Rattle.walk.specs.declared.fresh.Fresh.TheVariants.{Flat, Ended}
-use Rattle.tlb.specs.Answers.{Answer}
-use Rattle.history.specs.World.{Plain, walk_answer, regime_now}
+use Rattle.history.specs.World.{Plain, regime_now}
 use Rattle.history.specs.Instance.{Ram, memory_of, real}
 
 -- the fresh answer of an address under the registers and the level of a core
 abbrev pub fresh_now : Plain real → Ram → ℕ → Fresh
 fresh_now c m va = fresh_of (bank_of c.regs (regime_now real c)) (regime_now real c) va (memory_of m)
-
--- judged for an access that needs a permission bit
-abbrev pub fresh_answer : Fresh → ℕ → ℕ → Answer
-fresh_answer (Flat pa) bit va = Ok pa
-fresh_answer (Ended w) bit va = walk_answer w bit va

@@ -8,7 +8,8 @@ use Rattle.tlb.specs.Lists.{Each}
 use Rattle.tlb.specs.Asks.{Ask, kind_of, address_of}
 use Rattle.tlb.specs.declared.Inval.{Inval}
 use Rattle.tlb.specs.Answers.{Answer}
-use Rattle.history.specs.World.{World, covers, leaf_answer, Plain, page_walk, regime_now, on_now, untag_now, page_now, need_now}
+use Rattle.tlb.specs.Fresh.{leaf_answer}
+use Rattle.history.specs.World.{World, covers, Plain, page_walk, regime_now, on_now, untag_now, page_now, need_now}
 use Rattle.history.specs.History.{Step, Event, steps, plain_run, drops_run}
 
 module _ (w : World) (c₀ : Plain w) where

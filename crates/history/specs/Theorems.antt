@@ -13,12 +13,12 @@ use Rattle.sysreg.specs.declared.regs.Regime.{Regime}
 use Rattle.tlb.specs.Asks.{Ask, address_of, Given}
 use Rattle.tlb.specs.Counting.{sums}
 use Rattle.tlb.specs.Lists.{Each}
+use Rattle.tlb.specs.Fresh.{fresh_answer}
 use Rattle.tlb.specs.Model.{Model, Access, empty_model, line_of_leaf, covers as drops_line}
 use Rattle.tlb.specs.Tlb.{fresh}
 use Rattle.tlb.specs.declared.{access.Kind.Kind, Inval.Inval}
-use Rattle.history.specs.World.{covers, Plain, regime_now, untag_now, on_now, need_now, uncached}
+use Rattle.history.specs.World.{covers, Plain, regime_now, untag_now, on_now, uncached}
 use Rattle.history.specs.History.{Step, Event, plain_run, answers, tlb_run, answer_of, Settled}
-use Rattle.history.specs.Fresh.{fresh_now, fresh_answer}
 use Rattle.history.specs.Instance.{Ram, window_of, memory_of, real, fresh_plain}
 use Rattle.history.specs.Judgement.{Judged, Row, checked, user_now}
 use Rattle.history.specs.ModelRun.{model_answers, model_run, StandsFor}
@@ -147,12 +147,11 @@ same_for_neighbours =
 
 -- THE CORE WITHOUT A CACHE
 
--- answers by the fresh answer that AT and the page census go by
+-- answers by the fresh answer that AT and the page census go by, judged as tlb::fresh judges it
 abbrev pub uncached_is_fresh : Type 0
 uncached_is_fresh =
     (c : Plain real) (m : Ram) (k : Kind) (va : ℕ)
-    → uncached real c m k va ≡ fresh_answer (fresh_now c m va) (need_now real c k)
-    va
+    → uncached real c m k va ≡ fresh_answer (bank_of c.regs (regime_now real c)) (regime_now real c) (user_now c k) k va (memory_of m)
 
 -- and by the manual's permission check on what the walk of now finds
 abbrev pub uncached_is_checked : Type 0

@@ -1,11 +1,12 @@
 -- What the theory of histories takes from registers and walk, and the terms of docs/SCOPE.md on it: equal walks, covering, the
--- core without a cache. `span_bits`, `as_user` and `need` are the plain model's: tlb/specs/Model.antt.
-use Rattle.std.specs.Prelude.{if◌then◌else◌, ◌≡◌, Bool, true, not, ◌&&◌, ℕ, ◌+◌, ◌*◌, ◌/◌, ◌%◌, ◌^◌, ◌≤◌, ◌==◌, Ok, Err}
-use Rattle.fault.specs.First.{first}
+-- core without a cache. `span_bits`, `as_user` and `need` are the plain model's: tlb/specs/Model.antt; `walk_answer` is the judged fresh answer's:
+-- tlb/specs/Fresh.antt.
+use Rattle.std.specs.Prelude.{if◌then◌else◌, ◌≡◌, Bool, true, not, ◌&&◌, ℕ, ◌*◌, ◌/◌, ◌%◌, ◌^◌, ◌≤◌, ◌==◌, Ok}
 use Rattle.sysreg.specs.Regs.{regime_of}
 use Rattle.walk.specs.declared.{level.Leaf.Leaf}
 use Rattle.sysreg.specs.declared.regs.Regime.{Regime}
 use Rattle.tlb.specs.Access.{flat_answer}
+use Rattle.tlb.specs.Fresh.{walk_answer}
 use Rattle.tlb.specs.Model.{Access, as_user, need, span_bits}
 use Rattle.tlb.specs.declared.{access.Kind.Kind, access.Privilege.Privilege, Inval.Inval}
 use Rattle.tlb.specs.Answers.{Answer}
@@ -49,16 +50,6 @@ covers (Page n) p ℓ a = p % 2 ^ 44 / 2 ^ span_bits ℓ.level == n % 2 ^ 44 / 2
 covers (Asid b) p ℓ a = not ℓ.global && a == b
 
 -- CORE WITHOUT A CACHE
-
--- 0x0C plus the leaf's level where the leaf lacks the bit that the access needs; else its physical page with the low twelve bits of the address
-abbrev pub leaf_answer : Leaf → ℕ → ℕ → Answer
-leaf_answer ℓ bit va =
-    if ℓ.perms / bit % 2 == 1 then Ok (ℓ.oa / 4096 * 4096 + va % 4096) else Err (first (12 + ℓ.level))
-
--- a fault of the walk is the answer
-abbrev pub walk_answer : Walked → ℕ → ℕ → Answer
-walk_answer (Err code) bit va = Err (first code)
-walk_answer (Ok ℓ) bit va = leaf_answer ℓ bit va
 
 module _ (w : World) where
   -- A page is an untagged page of one regime; its walk is that of its first address.

@@ -3,6 +3,7 @@ pub mod Lists
 pub mod Asks
 pub mod Counting
 pub mod Cells
+pub mod Judging
 pub mod Refines
 pub mod Levels
 pub mod FlatLaws

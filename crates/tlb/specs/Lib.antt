@@ -8,6 +8,7 @@ pub mod Lists
 pub mod Tlb
 pub mod Translate
 pub mod Model
+pub mod Fresh
 pub mod Live
 pub mod Work
 pub mod Hand

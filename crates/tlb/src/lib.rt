@@ -12,6 +12,7 @@ use hint::{FetchHint, Hint, NO_HINT};
 pub mod access;
 pub mod count;
 pub mod entry;
+pub mod fresh;
 pub mod hint;
 pub mod theorems;
 pub mod translate;

@@ -1,6 +1,5 @@
--- The page census after every list of calls: it counts what the core without a cache would, page by page, and is a step
--- that does nothing.
-use Rattle.std.specs.Prelude.{if◌then◌else◌, ◌≡◌, refl, Bool, true, false, List, [], ◌∷◌, ◌++◌, ℕ, zero, suc, ◌+◌, ◌*◌, ◌/◌, ◌%◌, ◌<◌, ◌≤◌, eqb, get_or, Ok, Err}
+-- The page census after every list of calls: it counts what the core without a cache would, page by page.
+use Rattle.std.specs.Prelude.{if◌then◌else◌, ◌≡◌, refl, Bool, true, false, List, ℕ, zero, suc, ◌+◌, ◌*◌, ◌/◌, ◌%◌, ◌<◌, ◌≤◌, eqb, get_or, Ok, Err}
 use Rattle.std.proofs.Common.{sym, ap, ◌∙◌, ⊎_elim, arith, eqb-true, ne_eqb}
 use Rattle.word.specs.Bits.{flag}
 use Rattle.fault.specs.First.{first as status-of}
@@ -17,27 +16,21 @@ use Rattle.census.specs.Count.{page_at, census_at}
 use Rattle.census.specs.Laws.{faults_with, has_rights}
 use Rattle.census.proofs.Laws.{sound-at, status-count}
 use Rattle.tlb.specs.declared.access.Kind.{Kind}
-use Rattle.cpu.specs.Bare.{Bare, fresh_bare, bare_of}
-use Rattle.cpu.specs.Core.{fresh_core}
+use Rattle.cpu.specs.Bare.{Bare, bare_of}
 use Rattle.cpu.specs.declared.Core.{Core}
 use Rattle.cpu.specs.declared.call.Call.TheVariants.{Census}
-use Rattle.cpu.specs.declared.call.Reply.TheVariants.{Refused, Done}
-use Rattle.cpu.specs.Step.{ends, run_of, refused_or, step_of}
+use Rattle.cpu.specs.Step.{refused_or}
 use Rattle.cpu.specs.Inspect.{counts_of, counts_after}
-use Rattle.cpu.proofs.Censuses.{census-core}
-use Rattle.history.specs.World.{leaf_answer, need_now, uncached}
-use Rattle.history.specs.Fresh.{fresh_now, fresh_answer}
-use Rattle.history.proofs.Fresh.{uncached-fresh}
-use Rattle.history.specs.Calls.{Lent, run, bare_run}
+use Rattle.tlb.specs.Fresh.{leaf_answer, end_answer}
+use Rattle.history.specs.World.{need_now, uncached}
+use Rattle.history.specs.Fresh.{fresh_now}
+use Rattle.history.proofs.Fresh.{uncached-end}
 use Rattle.history.specs.Instance.{Ram, memory_of, real}
-use Rattle.transparency.specs.Bare.{Ruling, allowed, number, missed_in, ruling_in, refusal_of}
+use Rattle.transparency.specs.Bare.{allowed, number, missed_in, if_allowed}
 use Rattle.transparency.specs.Events.{plain_in}
-use Rattle.transparency.specs.Bare.{if_allowed, bare_step}
-use Rattle.transparency.specs.Replies.{outcome, bare_reply}
-use Rattle.transparency.specs.Machine.{machine}
 use Rattle.transparency.specs.Beside.{core_after}
 use Rattle.transparency.proofs.Beside.{two-cores}
-use Rattle.transparency.specs.Census.{bare_counts, census, answers_fault, NoPermission, answers_address}
+use Rattle.transparency.specs.Census.{bare_counts, answers_fault, NoPermission, answers_address}
 use Rattle.transparency.specs.Census as Statement
 
 -- the regime of its level, and that regime's registers
@@ -57,46 +50,10 @@ counts-bare c m first pages old = go (missed_in (bare_of c) m (Census first page
     go zero = refl
     go (suc n) = refl
 
--- After every list, refused or not: the counts, and the reply.
+-- after every list, refused or not
 pub census-after : Statement.census_after
 census-after list m first pages old =
     counts-bare (core_after list) m first pages old ∙ ap (λ (b : Bare). bare_counts b m first pages old) (two-cores list)
-
-reply-bare : (c : Core) (m : Ram) (first pages : ℕ)
-    → (step_of c m.base m.bytes (Census first pages)).reply ≡ (bare_reply (bare_of c) m (Census first pages)).reply
-unfolding step_of run_of
-reply-bare c m first pages = go (missed_in (bare_of c) m (Census first pages))
-  where
-    go : (n : ℕ) → (refused_or n (λ k. ends c (Refused k)) (ends c Done)).reply
-        ≡ (if_allowed (refused_or n number allowed) (outcome Done m.bytes) (outcome (refusal_of (refused_or n number allowed)) m.bytes)).reply
-    go zero = refl
-    go (suc n) = refl
-
-pub census-reply : Statement.census_reply
-census-reply list m first pages =
-    reply-bare (core_after list) m first pages ∙ ap (λ (b : Bare). (bare_reply b m (Census first pages)).reply) (two-cores list)
-
--- A STEP THAT DOES NOTHING: a list with a census in it leaves what it leaves without, whatever RAM the census was shown
-
-core-skips : (c : Core) (before after : List (Lent real machine)) (m : Ram) (first pages : ℕ)
-    → run real machine c (before ++ (census m first pages ∷ after)) ≡ run real machine c (before ++ after)
-core-skips c [] after m first pages = ap (λ (d : Core). run real machine d after) (census-core c m.base m.bytes first pages)
-core-skips c (x ∷ before) after m first pages = core-skips (step_of c x.ram.base x.ram.bytes x.call).core before after m first pages
-
-bare-stays : (b : Bare) (m : Ram) (first pages : ℕ) → bare_step b m (Census first pages) ≡ b
-bare-stays b m first pages = go (ruling_in b m (Census first pages))
-  where
-    go : (v : Ruling) → if_allowed v b b ≡ b
-    go allowed = refl
-    go _ = refl
-
-bare-skips : (b : Bare) (before after : List (Lent real machine)) (m : Ram) (first pages : ℕ)
-    → bare_run real machine b (before ++ (census m first pages ∷ after)) ≡ bare_run real machine b (before ++ after)
-bare-skips b [] after m first pages = ap (λ (d : Bare). bare_run real machine d after) (bare-stays b m first pages)
-bare-skips b (x ∷ before) after m first pages = bare-skips (bare_step b x.ram x.call) before after m first pages
-
-pub census-skipped : Statement.census_skipped
-census-skipped before after m first pages = (core-skips fresh_core before after m first pages, bare-skips fresh_bare before after m first pages)
 
 -- WHAT A COUNT MEANS
 
@@ -108,7 +65,7 @@ leaf-answers status bit va h leaf low high = go (eqb (leaf.perms / bit % 2) 1)
     go true = refl
     go false = ne_eqb (12 + leaf.level) status (λ e. ⊎_elim (λ k. omega arith) (λ k. omega arith) h)
 
-fresh-answers : (status bit va : ℕ) → NoPermission status → (x : Fresh) → SoundFresh x → answers_fault status (fresh_answer x bit va) ≡ faults_with status x
+fresh-answers : (status bit va : ℕ) → NoPermission status → (x : Fresh) → SoundFresh x → answers_fault status (end_answer x bit va) ≡ faults_with status x
 fresh-answers status bit va h (Ended (Err n)) sound = refl
 fresh-answers status bit va h (Ended (Ok leaf)) sound = leaf-answers status bit va h leaf sound.level-low sound.level-high
 fresh-answers status bit va h (Flat pa) sound = refl
@@ -124,7 +81,7 @@ status-faults b m first pages status k small h =
         sym
         (fresh-answers status (need_now real (plain_in b) k) (page_at first i) h (fresh_now (plain_in b) m (page_at first i))
         (sound-at (bank_in b) (regime_in b) (memory_of m) first i))
-        ∙ ap (answers_fault status) (sym (uncached-fresh (plain_in b) m k (page_at first i)))
+        ∙ ap (answers_fault status) (sym (uncached-end (plain_in b) m k (page_at first i)))
 
 -- Under a status stand the pages of which the core without a cache answers an access of any kind with that fault.
 pub census-faults : Statement.census_faults
@@ -134,7 +91,7 @@ picked : (b : Bool) (pa : ℕ) (f : Fault) → answers_address (if b then Ok pa 
 picked true pa f = refl
 picked false pa f = refl
 
-rights-fresh : (perms bit va : ℕ) (x : Fresh) → has_rights perms x ≡ true → answers_address (fresh_answer x bit va) ≡ eqb (perms / bit % 2) 1
+rights-fresh : (perms bit va : ℕ) (x : Fresh) → has_rights perms x ≡ true → answers_address (end_answer x bit va) ≡ eqb (perms / bit % 2) 1
 rights-fresh perms bit va (Ended (Ok leaf)) h =
     picked (eqb (leaf.perms / bit % 2) 1) (leaf.oa / 4096 * 4096 + va % 4096) (status-of (12 + leaf.level))
     ∙ ap (λ (p : ℕ). eqb (p / bit % 2) 1) (eqb-true leaf.perms perms h)
@@ -144,8 +101,8 @@ rights-fresh perms bit va (Flat pa) h = absurd (let z : ◌≡◌ {A = ℕ} 0 1 
 -- Of a page that is counted under a permission byte, and of a flat one.
 pub rights-allow : Statement.rights_allow
 rights-allow b m k va perms h =
-    ap answers_address (uncached-fresh (plain_in b) m k va) ∙ rights-fresh perms (need_now real (plain_in b) k) va (fresh_now (plain_in b) m va) h
+    ap answers_address (uncached-end (plain_in b) m k va) ∙ rights-fresh perms (need_now real (plain_in b) k) va (fresh_now (plain_in b) m va) h
 
 pub flat-allows : Statement.flat_allows
 flat-allows b m k va pa e =
-    uncached-fresh (plain_in b) m k va ∙ ap (λ (x : Fresh). fresh_answer x (need_now real (plain_in b) k) va) e
+    uncached-end (plain_in b) m k va ∙ ap (λ (x : Fresh). end_answer x (need_now real (plain_in b) k) va) e

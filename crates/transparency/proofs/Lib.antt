@@ -7,6 +7,7 @@ pub mod Steps
 pub mod StepEvents
 pub mod Claim
 pub mod Beside
+pub mod Looks
 pub mod Census
 pub mod Direct
 pub mod Faithful

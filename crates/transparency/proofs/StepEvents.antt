@@ -12,7 +12,7 @@ use Rattle.cpu.specs.declared.Core.{Core}
 use Rattle.system.specs.declared.decode.Encoding.{Encoding}
 use Rattle.cpu.specs.declared.{call.Call.Call}
 use Rattle.cpu.specs.declared.call.Call.TheVariants.{Load, Store, System, Register, Level, Mark, General}
-use Rattle.cpu.specs.declared.call.Call.TheVariants.{Abort, Census}
+use Rattle.cpu.specs.declared.call.Call.TheVariants.{Abort, Census, Windows}
 use Rattle.history.specs.World.{Plain}
 use Rattle.history.specs.History.{carries, Event, steps, after, plain_run, drops}
 use Rattle.history.specs.History as History
@@ -71,6 +71,7 @@ module _ (b : Bare) (m : Ram) where
   one-call allowed (Abort e) z = record { done = abort_step b e; is = refl; asks = refl; dropped = refl }
   one-call allowed (General n value) z = quiet
   one-call allowed (Census first pages) z = quiet
+  one-call allowed Windows z = quiet
   one-call allowed (Load va size) z = asks-only _
   one-call allowed (Store va size value) z = asks-only _
   one-call allowed _ z = asks-only _

@@ -1,6 +1,5 @@
--- The page census after every list of calls: it counts what the core without a cache would, page by page, and is a step
--- that does nothing.
-use Rattle.std.specs.Prelude.{◌≡◌, Bool, true, false, List, ◌∷◌, ◌++◌, ◌⊎◌, ℕ, ◌/◌, ◌%◌, ◌<◌, eqb, get_or, Ok, Err}
+-- The page census after every list of calls: it counts what the core without a cache would, page by page.
+use Rattle.std.specs.Prelude.{◌≡◌, Bool, true, false, List, ◌⊎◌, ℕ, ◌/◌, ◌%◌, ◌<◌, eqb, get_or, Ok, Err}
 use Rattle.walk.specs.declared.fresh.Fresh.TheVariants.{Flat}
 use Rattle.census.specs.Tally.{how_many}
 use Rattle.census.specs.Count.{page_at, census_at}
@@ -9,7 +8,6 @@ use Rattle.tlb.specs.declared.access.Kind.{Kind}
 use Rattle.tlb.specs.Answers.{Answer}
 use Rattle.cpu.specs.Bare.{Bare}
 use Rattle.cpu.specs.declared.call.Call.TheVariants.{Census}
-use Rattle.cpu.specs.Step.{step_of}
 use Rattle.cpu.specs.Inspect.{counts_after}
 use Rattle.history.specs.World.{need_now, uncached}
 use Rattle.history.specs.Fresh.{fresh_now}
@@ -18,7 +16,6 @@ use Rattle.history.specs.Instance.{Ram, memory_of, real}
 use Rattle.transparency.specs.Bare.{allowed, ruling_in}
 use Rattle.transparency.specs.Events.{plain_in}
 use Rattle.transparency.specs.Bare.{if_allowed}
-use Rattle.transparency.specs.Replies.{bare_reply}
 use Rattle.transparency.specs.Machine.{machine}
 use Rattle.transparency.specs.Beside.{core_after, bare_after}
 
@@ -28,28 +25,11 @@ abbrev pub bare_counts : Bare → Ram → ℕ → ℕ → List ℕ → List ℕ
 bare_counts b m first pages old =
     if_allowed (ruling_in b m (Census first pages)) (census_at b.control b.privilege.level (memory_of m) first pages) old
 
--- After every list, refused or not: the counts, and the reply.
+-- after every list, refused or not
 abbrev pub census_after : Type 0
 census_after =
     (list : List (Lent real machine)) (m : Ram) (first pages : ℕ) (old : List ℕ)
     → counts_after (core_after list) m.base m.bytes first pages old ≡ bare_counts (bare_after list) m first pages old
-
-abbrev pub census_reply : Type 0
-census_reply =
-    (list : List (Lent real machine)) (m : Ram) (first pages : ℕ)
-    → (step_of (core_after list) m.base m.bytes (Census first pages)).reply
-    ≡ (bare_reply (bare_after list) m (Census first pages)).reply
-
--- A STEP THAT DOES NOTHING: a list with a census in it leaves what it leaves without, whatever RAM the census was shown
-
-abbrev pub census : Ram → ℕ → ℕ → Lent real machine
-census m first pages = record { ram = m; call = Census first pages }
-
-abbrev pub census_skipped : Type 0
-census_skipped =
-    (before after : List (Lent real machine)) (m : Ram) (first pages : ℕ)
-    → (core_after (before ++ (census m first pages ∷ after)) ≡ core_after (before ++ after))
-    × (bare_after (before ++ (census m first pages ∷ after)) ≡ bare_after (before ++ after))
 
 -- WHAT A COUNT MEANS
 

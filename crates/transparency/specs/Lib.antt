@@ -12,6 +12,7 @@ pub mod Premise
 pub mod Says
 -- What is proved beside it.
 pub mod Beside
+pub mod Looks
 pub mod Census
 pub mod Direct
 pub mod Faithful

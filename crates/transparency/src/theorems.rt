@@ -16,8 +16,8 @@ ghost use Rattle.transparency.specs.Beside.{abort_leaves, level_leaves, mark_lea
 ghost use Rattle.transparency.specs.Faithful.{every_list_shown, faithful_step};
 ghost use Rattle.transparency.specs.Direct.{translate_after, data_pa_after, fetch_pa_after};
 ghost use Rattle.transparency.specs.Direct.{access_after, load_after, store_after, fetch_after, zero_after};
-ghost use Rattle.transparency.specs.Census.{census_after, census_reply, census_skipped};
-ghost use Rattle.transparency.specs.Census.{census_faults, rights_allow, flat_allows};
+ghost use Rattle.transparency.specs.Looks.{look_reply, look_skipped};
+ghost use Rattle.transparency.specs.Census.{census_after, census_faults, rights_allow, flat_allows};
 ghost use Rattle.transparency.specs.Judged.{every_call_judged, every_row};
 ghost use Rattle.transparency.specs.Faults.{every_replied_fault};
 ghost use Rattle.transparency.specs.Worked.{tidied_settled, by_cache, start_stale, start_unsettled, counted_by_level};
@@ -133,12 +133,16 @@ pub fn parts_kept()
     ensures register { register_leaves }
 {}
 
-/// A page census counts and replies what the core without a cache would, and a list leaves what it leaves without its
-/// censuses. Rules out a census that asks the cache, fills it, or counts as a walk.
+/// A call that only looks, a census or windows, replies what the core without a cache would, and a list leaves what it
+/// leaves without it. Rules out one that fills the cache, or counts as a walk.
+pub fn every_look()
+    ensures reply { look_reply }
+    ensures skipped { look_skipped }
+{}
+
+/// A page census counts what the core without a cache would. Rules out a census that asks the cache.
 pub fn every_census()
     ensures counts { census_after }
-    ensures reply { census_reply }
-    ensures skipped { census_skipped }
 {}
 
 /// What a count means: how many pages the core without a cache answers with that fault; that a page under a permission

@@ -2,7 +2,7 @@
 //!
 //! On the Rust's side the operation itself is called, behind one call that is not inlined, with RAM at its quickest;
 //! the checks are not made there. On the library's side its exported function is called. Translations,
-//! loads, stores and censuses have a third side: the Rust behind the library's signatures, with the checks.
+//! loads, stores, censuses and lists of windows have a third side: the Rust behind the library's signatures, with the checks.
 //!
 //! The core as plain Rust may stand in the library's place: its methods, with their checks, behind one call each.
 mod cases;
@@ -21,6 +21,7 @@ use crate::census::Counts;
 use crate::number::FAULT;
 use crate::ffi::{boxed, saved, state_of, Held};
 use crate::rust::RustCore;
+use crate::windows::{encode, Window};
 use crate::{Core, Ram};
 use a72::Rate;
 use scene::Scene;
@@ -53,6 +54,46 @@ pub enum Work {
     Census(u64),
     /// The argument is a number of cycles.
     Frames(Rate),
+    /// The argument is 0 or 1: a list, or it turned round.
+    Windows(Lists),
+}
+
+/// Lists of windows.
+#[derive(Clone, Copy, Debug, PartialEq, Eq)]
+pub enum Lists {
+    /// 64 windows of sixteen pages, no page twice.
+    Apart,
+    /// The same, but the last window is the first again, or in the list turned round the first the last.
+    Meeting,
+    /// Sixteen windows of one page, no page twice.
+    Sixteen,
+}
+
+impl Lists {
+    /// A list, and the same turned round.
+    fn bytes(self) -> [Vec<u8>; 2] {
+        let (count, pages) = match self {
+            Lists::Sixteen => (16, 1),
+            _ => (64, 16),
+        };
+        let window = |i: u16| Window {
+            start: 0x1_0000 * u64::from(i),
+            pages,
+        };
+        let mut windows: Vec<Window> = (0..count).map(window).collect();
+        if self == Lists::Meeting {
+            windows[63] = windows[0];
+        }
+        let there = encode(&windows);
+        windows.reverse();
+        [there, encode(&windows)]
+    }
+}
+
+/// What a list comes to, in the sum.
+#[inline(always)]
+fn met(found: Option<(usize, usize)>) -> u64 {
+    found.map_or(1, |(first, second)| (first << 8 | second) as u64)
 }
 
 /// One line of the table.
@@ -76,12 +117,17 @@ impl Case {
         }
     }
 
+    /// Whether a call takes a part of a millisecond or more.
+    fn is_long(&self) -> bool {
+        matches!(self.work, Work::Census(_) | Work::Windows(Lists::Apart | Lists::Meeting))
+    }
+
     /// How many calls are enough where `many` of short ones would be: a long one is compared in all its counts.
     pub fn calls(&self, many: usize) -> usize {
-        if self.parts() == 1 {
-            many
-        } else {
-            2
+        match self.work {
+            Work::Census(_) => 2,
+            _ if self.is_long() => 4,
+            _ => many,
         }
     }
 }

@@ -54,10 +54,10 @@ pub fn hold(text: &str, core: &mut dyn Core) -> Result<Outcome, String> {
     core.reset();
     for (i, l) in text.lines().enumerate() {
         let at = |e: String| format!("line {}: {e}", i + 1);
-        let line = Line::parse(l).map_err(at)?;
-        let answer = line.and_then(|line| feed(&line, core, &mut ram));
+        let lines = Line::parse(l).map_err(at)?;
+        let answer = lines.iter().filter_map(|line| feed(line, core, &mut ram)).last();
         let expects = wanted(l).is_some();
-        if let (Some(Line::Op(_)), None) = (line, &answer) {
+        if let (Some(Line::Op(_)), None) = (lines.last(), &answer) {
             outcome.left_out += expects as usize;
             continue;
         }

@@ -3,7 +3,7 @@
 //! of that page that the core really made, that no later invalidation covers, and that is global or of the ASID in
 //! force now, differs from the walk now, the two answers are equal. (The scope lets every walk the page would have
 //! had excuse a difference, so it asks less.) A census is a step that does nothing, and its counts are those of the
-//! core without a cache. A translation that walks reads the descriptors of the walk now, any other none; an operation
+//! core without a cache; so is a list of windows, with what it comes to. A translation that walks reads the descriptors of the walk now, any other none; an operation
 //! reads what its translations do, and AT what a walk does, whatever the cache holds. After each step [`invariant`] is
 //! checked too.
 mod invariant;
@@ -26,6 +26,7 @@ pub struct Seen {
     pub stale: Vec<(usize, u64)>,
     pub equal_though_excused: u64,
     pub censuses: u64,
+    pub lists: u64,
 }
 
 /// One list of operations under test.
@@ -185,16 +186,20 @@ impl Trial<'_> {
         }
     }
 
-    /// A census on both cores.
-    fn census(&mut self, op: &Op, core: &mut dyn Core, ram: &mut Ram) -> Result<(), String> {
+    /// A census or a list of windows on both cores.
+    fn look(&mut self, op: &Op, core: &mut dyn Core, ram: &mut Ram) -> Result<(), String> {
         let before = core.state();
         let (want, got) = (self.bare.step(op, ram), core.step(op, ram));
-        self.seen.censuses += 1;
+        ram.taken(op);
+        match op {
+            Op::Windows => self.seen.lists += 1,
+            _ => self.seen.censuses += 1,
+        }
         if got != want {
             return Err(format!("gives {got}, without a cache {want}"));
         }
         if core.state() != before {
-            return Err("a census moved something".into());
+            return Err("it moved something".into());
         }
         Ok(())
     }
@@ -202,7 +207,7 @@ impl Trial<'_> {
     /// The line on both cores. RAM moves with the core under test.
     fn feed(&mut self, line: &Line, core: &mut dyn Core, ram: &mut Ram) -> Result<(), String> {
         match line {
-            Line::Op(op @ Op::Census(..)) => return self.census(op, core, ram),
+            Line::Op(op) if op.looks() => return self.look(op, core, ram),
             Line::Op(op) if op.may_write_ram() => {
                 self.bare.step(op, &mut ram.clone());
             }

@@ -7,7 +7,7 @@
 //! scope's: the Rust function of that name. `a72_init_at` makes the core that `Cpu::new` makes.
 //!
 //! [`CCore`] runs by `a72_step`, or, with the feature `rattle`, by the function for each operation (`ffi/each.rs`); the
-//! counts of a census are `a72_census`'s in both. What the core holds is what `a72_save` gives, after every operation, and
+//! counts of a census are `a72_census`'s in both, and what a list of windows comes to `a72_windows`'s. What the core holds is what `a72_save` gives, after every operation, and
 //! what it shall hold goes in by `a72_restore`. Without the feature the model stands behind these functions.
 //!
 //! # An operation: 8 words
@@ -31,6 +31,7 @@
 //! | 11 | `x` general register | number, value |
 //! | 12 | `abort` abort entry | E |
 //! | 13 | `census` page census | first address, number of pages |
+//! | 14 | `win` list of windows; it takes the bytes of the list that lines of code 68 brought | |
 //! | 20 | `l-asid` | |
 //! | 21 | `l-on` stage1_on | regime (1 to 3) |
 //! | 22, 23 | `l-untag`, `l-walk` | regime, address |
@@ -44,12 +45,13 @@
 //! | 44 | `p-cnt`: hits and walks of EL0, flushes, drops, epoch become this, hits and walks of EL1 to EL3 0 | value |
 //! | 45 | `p-bc`: the pending broadcast is taken (none) | |
 //!
-//! Codes 1 to 13 are the list, and only they reach `a72_step`. 20 to 28
+//! Codes 1 to 14 are the list, and only they reach `a72_step`. 20 to 28
 //! are leaves, which change nothing: the core behind the boundary has none, so they are left out for it and counted
 //! ([`Core::has`]). 40 to 45 are pokes, which only the comparer uses: the harness restores the core from saved words that
 //! it edited, or, by each function, calls the library's own setter where there is one (41, 43, 45). The lines of a trace around the operations have codes in files: 60 `fresh`; 61 `window` base, length; 62 `zero`; 63
 //! `poke` address, value; 64 `w-word` place, value; 65 `w-hint` slot, key, page; 66 `w-entry` slot, four words; 67
-//! `w-fetch` page, level, physical page.
+//! `w-fetch` page, level, physical page; 68 `bytes`: how many, at most 48, then they in six words, little-endian, the rest 0. They
+//! come to those that stand since the last `win`; a trace's line of more bytes is several of these.
 //!
 //! Levels, sizes, fields, register numbers and keys are 32-bit numbers and may be any of them: the checks 1 to 7
 //! are the core's. A translation's kind and a leaf's regime are always one of those named.
@@ -60,18 +62,19 @@
 //! |---|---|---|
 //! | 0 | ok | |
 //! | 1 | value | value |
-//! | 2 | none: `dpa`, `fpa` would fault; `l-bank` knows no such key | |
+//! | 2 | none: `dpa`, `fpa` would fault; `l-bank` knows no such key; `win` no two windows share a page | |
 //! | 3 | a walk's leaf | address; permissions + level << 8; attribute index + shareability << 8 + NS << 16 + global << 24 |
-//! | 4 | pair: `l-bank` register and level; `l-syn` ESR and FAR | first, second |
-//! | 5 | the check's number | 1 to 7 |
+//! | 4 | pair: `l-bank` register and level; `l-syn` ESR and FAR; `win` two windows | first, second |
+//! | 5 | the check's number | 1 to 7, 9 |
 //! | 6, 7 | Undefined, Unimplemented | |
 //! | 8 | fault of a translation (also `l-walk`) | address, status |
 //! | 9 | data abort | address, status, write |
 //! | 10 | instruction abort | address, status |
 //! | 11 | the counts of a census | how many are not 0, the digest of all 129 |
+//! | 12 | the first page that faults of a list of windows | window, page, status |
 //!
 //! `tr`, `dpa`, `fpa`, `ld`, `if` give a value; `st`, `sys`, `reg`, `level`, `mark`, `x`, `abort` and the pokes give
-//! ok. `census` gives ok by `a72_step`; its counts are `a72_census`'s, and code 11 stands in records alone. `l-bank`
+//! ok. `census` and `win` give ok by `a72_step`, or 1 or 2; the counts are `a72_census`'s, what a list comes to `a72_windows`'s, and codes 11 and 12 stand in records alone. `l-bank`
 //! numbers the registers SCTLR 0, TCR, TTBR0, TTBR1, MAIR, VBAR, ELR, SPSR, ESR, FAR, SCR, HCR, VPIDR, VMPIDR 13.
 //! `l-syn` without a FAR gives a value, the ESR.
 //!
@@ -92,6 +95,7 @@
 pub mod each;
 #[path = "../../../bindings/rust-archive/src/held.rs"]
 mod held;
+mod looks;
 pub(crate) mod poke;
 mod state;
 mod words;
@@ -99,7 +103,6 @@ mod words;
 #[cfg(not(feature = "rattle"))]
 mod stand_in;
 
-use crate::census::{Counts, COUNTS};
 use crate::number;
 use crate::op::{Ans, Line, Op};
 use crate::place;
@@ -107,6 +110,8 @@ use crate::rust::RustCore;
 use crate::wild::Part;
 use crate::{Core, Ram, State};
 pub use held::Held;
+pub use looks::{count, windows_into};
+use looks::{census, counted, looked, windows};
 pub use state::{levels_of, state_of, words_of, ENTRY_WORDS, HINT_WORDS, LEVEL_WORDS, RETIRED};
 pub use words::{decode, decode_answer, encode, encode_answer, exception};
 
@@ -115,7 +120,7 @@ use crate::library;
 #[cfg(not(feature = "rattle"))]
 use stand_in as library;
 
-use library::{a72_census, a72_step};
+use library::a72_step;
 
 /// What stands where the library has to write: no answer and no saved word.
 const UNWRITTEN: u64 = 0xA5A5_A5A5_A5A5_A5A5;
@@ -154,35 +159,8 @@ fn step(core: &mut Held, op: &Op, ram: &mut Ram) -> (Ans, u64) {
     };
     match *op {
         Op::Census(first, pages) => (counted(said, census(core, first, pages, ram)), reads),
+        Op::Windows => (looked(said, windows(core, ram)), reads),
         _ => (said, reads),
-    }
-}
-
-/// `a72_census`: its number.
-#[inline(always)]
-pub fn count(core: &Held, first: u64, pages: u64, counts: &mut Counts, base: u64, ram: &[u8]) -> u64 {
-    // Sound: each pointer is that of a core, an array or a slice, with its own length; the counts are borrowed exclusively.
-    unsafe { a72_census(core.handle(), first, pages, counts, base, ram.as_ptr(), ram.len()) }
-}
-
-/// By `a72_census`. Where it is refused no count may be written.
-fn census(core: &Held, first: u64, pages: u64, ram: &mut Ram) -> Ans {
-    let mut counts = Box::new([UNWRITTEN; COUNTS]);
-    // Sound: the window's bytes, which `ram` lends to be read.
-    let bytes = unsafe { std::slice::from_raw_parts(ram.bytes.lent(false), ram.bytes.len()) };
-    match count(core, first, pages, &mut counts, ram.base, bytes) {
-        number::DONE => Ans::Counts(counts),
-        n @ 1..=number::LAST_CHECK if *counts == [UNWRITTEN; COUNTS] => Ans::Number(n as u8),
-        _ => Ans::Panic,
-    }
-}
-
-/// The answer by `a72_census`, where `a72_step` said the same of it.
-fn counted(said: Ans, answer: Ans) -> Ans {
-    match (said, answer) {
-        (Ans::Ok, answer @ Ans::Counts(_)) => answer,
-        (Ans::Number(n), Ans::Number(m)) if n == m => Ans::Number(n),
-        _ => Ans::Panic,
     }
 }
 
@@ -276,7 +254,7 @@ impl Core for CCore {
 
     fn step(&mut self, op: &Op, ram: &mut Ram) -> Ans {
         let (answer, reads) = match op {
-            Op::Census(..) => self.inspect(op, ram),
+            _ if op.looks() => self.inspect(op, ram),
             _ if op.is_poke() => (self.poke(op), 0),
             _ => (self.step)(&mut self.core, op, ram),
         };
@@ -359,7 +337,7 @@ mod tests {
         let before = saved(&core);
         for words in [
             &[0][..],
-            &[14],
+            &[15],
             &[20],
             &[1, 3],
             &[10, 2],

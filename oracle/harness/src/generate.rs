@@ -10,8 +10,10 @@ mod rng;
 mod scenario;
 mod system;
 mod tables;
+mod voices;
 mod wild;
 mod window;
+mod windows;
 
 use crate::op::{Line, Op};
 pub use rng::Rng;
@@ -35,6 +37,8 @@ pub struct Generator {
     aside: Rng,
     /// For crossing accesses.
     across: Rng,
+    /// For lists of windows.
+    lists: Rng,
     lines: Vec<Line>,
     style: Style,
     /// The descriptors written, by address.
@@ -56,8 +60,8 @@ pub struct Generator {
     wrap: bool,
 }
 
-/// A trace of about `n` operations; censuses, the accesses in [`crossing`] and the edge of flat addresses are not
-/// counted.
+/// A trace of about `n` operations; censuses, lists of windows, the accesses in [`crossing`] and what stands at the end
+/// are not counted.
 pub fn trace(seed: u64, n: usize, style: Style) -> Vec<Line> {
     let mut g = Generator::new(seed, style);
     let mut ops = 0;
@@ -68,12 +72,13 @@ pub fn trace(seed: u64, n: usize, style: Style) -> Vec<Line> {
         while ops < until {
             let before = g.lines.len();
             g.action();
-            let counts = |l: &&Line| matches!(l, Line::Op(op) if !matches!(op, Op::Census(..)));
+            let counts = |l: &&Line| matches!(l, Line::Op(op) if !op.looks());
             ops += g.lines[before..].iter().filter(counts).count();
             g.cross();
         }
     }
     g.flat_edge(seed);
+    g.voices(seed);
     g.lines
 }
 
@@ -83,6 +88,7 @@ impl Generator {
             r: Rng::new(seed),
             aside: Rng::new(!seed),
             across: Rng::new(seed.rotate_left(32) ^ 11),
+            lists: Rng::new(seed.rotate_left(32) ^ 5),
             lines: Vec::new(),
             style,
             mem: BTreeMap::new(),

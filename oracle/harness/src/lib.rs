@@ -25,6 +25,7 @@ pub mod text;
 #[cfg(feature = "walk")]
 pub mod walk;
 pub mod wild;
+pub mod windows;
 
 // The C boundary as the Rust crate declares it: the functions, the numbers that they give, the places of a saved core's
 // words and of a census's counts; `ffi` has its memory for a core.
@@ -90,7 +91,12 @@ pub fn feed(line: &Line, core: &mut dyn Core, ram: &mut Ram) -> Option<Ans> {
         Line::Zero => ram.bytes.fill(0),
         Line::Poke(addr, v) => ram.poke(*addr, *v),
         Line::Put(part) => core.put(part),
-        Line::Op(op) if core.has(op) => return Some(core.step(op, ram)),
+        Line::Bytes(piece) => ram.list.extend(piece.bytes()),
+        Line::Op(op) if core.has(op) => {
+            let answer = core.step(op, ram);
+            ram.taken(op);
+            return Some(answer);
+        }
         Line::Op(_) => {}
     }
     None

@@ -1,6 +1,7 @@
 //! A trace's lines: operations on a core, and what happens around them; and the answers of operations.
 use crate::census::Counts;
 use crate::wild::Part;
+use crate::windows::{Found, PageFault, Piece};
 use pimu::aarch64::Exception;
 
 /// An operation on a core. [`crate::text`] has the text form, [`crate::ffi`] the numeric one.
@@ -25,6 +26,8 @@ pub enum Op {
     Abort(Exception),
     /// The first address and the number of pages.
     Census(u64, u64),
+    /// The list of windows is what lines before it brought.
+    Windows,
     // Leaves, on the registers as they stand. They change nothing.
     LeafAsid,
     LeafOn(u8),
@@ -72,13 +75,26 @@ impl Op {
         use Op::*;
         matches!(
             self,
-            Translate(..) | DataPa(_) | FetchPa(_) | Load(..) | Store(..) | Fetch(_) | Sys(..) | Census(..)
+            Translate(..)
+                | DataPa(_)
+                | FetchPa(_)
+                | Load(..)
+                | Store(..)
+                | Fetch(_)
+                | Sys(..)
+                | Census(..)
+                | Windows
         )
     }
 
     /// Whether the descriptors that it read stand beside its answer.
     pub fn reports(&self) -> bool {
-        self.takes_ram() && !matches!(self, Op::Census(..))
+        self.takes_ram() && !self.looks()
+    }
+
+    /// Whether it looks at core and RAM, and moves nothing.
+    pub fn looks(&self) -> bool {
+        matches!(self, Op::Census(..) | Op::Windows)
     }
 
     /// Whether it may write RAM.
@@ -97,8 +113,10 @@ pub enum Ans {
     Pair(u64, u64),
     /// Those of a census.
     Counts(Box<Counts>),
-    /// The numbers of the checks 1 to 7.
+    /// The numbers of the checks 1 to 7, and 9 of a list of windows that is none.
     Number(u8),
+    /// Of a list of windows the first page that faults: window, page, status.
+    Page(u64, u64, u8),
     Undefined,
     Unimplemented,
     /// A translation's fault: the address translated and the status.
@@ -109,6 +127,17 @@ pub enum Ans {
     Insn(u64, u8),
     /// Only where the debug build's checks are on.
     Panic,
+}
+
+impl Ans {
+    /// What a right list of windows comes to.
+    pub fn of(found: Found) -> Ans {
+        match found {
+            Ok(Some((first, second))) => Ans::Pair(first as u64, second as u64),
+            Ok(None) => Ans::None,
+            Err(PageFault { window, page, status }) => Ans::Page(window as u64, page as u64, status),
+        }
+    }
 }
 
 #[derive(Clone, Copy, Debug, PartialEq, Eq)]
@@ -123,5 +152,7 @@ pub enum Line {
     Poke(u64, u64),
     /// A part of the core's state is overwritten.
     Put(Part),
+    /// These bytes come to those of a list of windows, which the next [`Op::Windows`] takes.
+    Bytes(Piece),
     Op(Op),
 }

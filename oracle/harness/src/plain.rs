@@ -8,7 +8,7 @@ use crate::rust::RustCore;
 use crate::wild::Part;
 use crate::{Core, Ram, State};
 use a72::registers::Key;
-use a72::{Access, Census, Exception, Level, Status, Stop, SystemOperation};
+use a72::{Access, Census, Exception, Level, Status, Stop, SystemOperation, WindowsError};
 use pimu::aarch64::Exception as Pimu;
 
 #[derive(Clone, Default)]
@@ -58,6 +58,15 @@ fn counted(census: &Census) -> Ans {
     Ans::Counts(counts)
 }
 
+/// What a list of windows comes to.
+pub fn windows(core: &a72::Core, ram: &a72::Ram, list: &[u8]) -> Ans {
+    match core.windows_of_bytes(ram, list) {
+        Ok(pair) => Ans::of(Ok(pair)),
+        Err(WindowsError::Page(f)) => Ans::Page(f.window as u64, f.page as u64, f.status.0),
+        Err(refused) => Ans::Number(refused.number() as u8),
+    }
+}
+
 /// The answer of an operation that a stop ended.
 fn stopped(op: &Op, stop: Stop) -> Ans {
     match (op, stop) {
@@ -72,8 +81,8 @@ fn stopped(op: &Op, stop: Stop) -> Ans {
     }
 }
 
-/// One operation of the list, by its method.
-fn step(core: &mut a72::Core, op: &Op, ram: &mut a72::Ram) -> Result<Ans, Stop> {
+/// One operation of the list, by its method; of windows on these bytes.
+fn step(core: &mut a72::Core, op: &Op, ram: &mut a72::Ram, list: &[u8]) -> Result<Ans, Stop> {
     let reached = |pa: Option<u64>| pa.map_or(Ans::None, Ans::Val);
     let done = |()| Ans::Ok;
     match *op {
@@ -94,6 +103,7 @@ fn step(core: &mut a72::Core, op: &Op, ram: &mut a72::Ram) -> Result<Ans, Stop> 
         Op::SetX(r, v) => core.set_general(r.into(), v).map(done),
         Op::Abort(e) => core.take(&exception(e)).map(done),
         Op::Census(first, pages) => core.census(ram, first, pages).map(|census| counted(&census)),
+        Op::Windows => Ok(windows(core, ram, list)),
         _ => unreachable!("{op} is none of the list"),
     }
 }
@@ -154,9 +164,9 @@ impl Core for PlainCore {
         // Sound: the window's bytes, which `ram` lends. Where they are sealed nobody here writes them.
         let bytes = unsafe { std::slice::from_raw_parts_mut(at, len) };
         let mut window = a72::Ram::new(ram.base, bytes);
-        let answer = step(&mut self.core, op, &mut window).unwrap_or_else(|stop| stopped(op, stop));
-        // A census takes the core to be looked at alone, and leaves the report of the operation before it.
-        if !matches!(op, Op::Census(..)) {
+        let answer = step(&mut self.core, op, &mut window, &ram.list).unwrap_or_else(|stop| stopped(op, stop));
+        // What looks at the core alone leaves the report of the operation before it.
+        if !op.looks() {
             self.reads = self.core.report().reads;
         }
         answer

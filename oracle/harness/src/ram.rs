@@ -1,6 +1,7 @@
 //! The RAM window: a base address and bytes. `direct()` stays false.
 mod twin;
 
+use crate::op::Op;
 use crate::state::Hash;
 use pimu::aarch64::{Abort, Memory};
 use std::ops::{Deref, DerefMut};
@@ -58,6 +59,8 @@ pub struct Ram {
     pub writes: u64,
     /// How many reads of eight bytes pimu asked for.
     pub reads: u64,
+    /// The bytes of a list of windows, beside the window: those that the lines since the last list brought.
+    pub list: Vec<u8>,
 }
 
 impl Default for Bytes {
@@ -71,6 +74,7 @@ impl Clone for Ram {
         Ram {
             writes: self.writes,
             reads: self.reads,
+            list: self.list.clone(),
             ..Ram::of(self.base, self.bytes.to_vec())
         }
     }
@@ -89,6 +93,14 @@ impl Ram {
             bytes: Bytes::Plain(bytes),
             writes: 0,
             reads: 0,
+            list: Vec::new(),
+        }
+    }
+
+    /// An operation was carried out or refused: a list of windows is taken then.
+    pub fn taken(&mut self, op: &Op) {
+        if *op == Op::Windows {
+            self.list.clear();
         }
     }
 

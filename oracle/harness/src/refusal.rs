@@ -1,6 +1,7 @@
-//! The refusals 1 to 7 of docs/SCOPE.md.
+//! The refusals 1 to 7 and 9 of docs/SCOPE.md.
 use crate::count::MOST_PAGES;
 use crate::op::Op;
+use crate::windows::List;
 use crate::Ram;
 
 /// Whether the range has too many pages or passes 2^64; one that ends there does not pass it.
@@ -28,6 +29,7 @@ pub fn refusal(op: &Op, level: u32, ram: &Ram, kept: impl Fn(u32) -> bool) -> Op
         Sys(_, _, _, _, r) | SetX(r, _) if r > 31 => Some(5),
         Reg(k, _) if !kept(k) => Some(6),
         Census(first, pages) if over(first, pages) => Some(7),
+        Windows if List::read(&ram.list).is_none() => Some(9),
         _ => None,
     }
 }

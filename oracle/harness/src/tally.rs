@@ -7,7 +7,7 @@ use pimu::aarch64::access::cpu::unprivileged;
 use std::fmt::{self, Display, Formatter};
 
 /// The kinds of operations, in the order of their names.
-const KINDS: [&str; 22] = [
+const KINDS: [&str; 23] = [
     "abort",
     "census",
     "dpa",
@@ -29,10 +29,11 @@ const KINDS: [&str; 22] = [
     "tr fetch",
     "tr read",
     "tr write",
+    "win",
     "x",
 ];
 
-/// The kinds of answers: those without a number, then numbers, levels of leaves, and four times 256 statuses.
+/// The kinds of answers: those without a number, then numbers, levels of leaves, and five times 256 statuses.
 const PLAIN: [&str; 9] = [
     "ok",
     "val",
@@ -45,10 +46,10 @@ const PLAIN: [&str; 9] = [
     "counts",
 ];
 const NUMBERS: usize = PLAIN.len();
-const LEAVES: usize = NUMBERS + 8;
+const LEAVES: usize = NUMBERS + 10;
 const STATUSES: usize = LEAVES + 4;
-const CLASSES: usize = STATUSES + 4 * 256;
-const STATUS: [&str; 4] = ["fault", "data", "insn", "PAR"];
+const CLASSES: usize = STATUSES + 5 * 256;
+const STATUS: [&str; 5] = ["fault", "data", "insn", "PAR", "page"];
 
 pub struct Tally {
     counts: Vec<[u64; CLASSES]>,
@@ -105,7 +106,8 @@ fn kind(op: &Op) -> usize {
         Op::Translate(1, _) => 19,
         Op::Translate(2, _) => 20,
         Op::Translate(..) => 18,
-        Op::SetX(..) => 21,
+        Op::Windows => 21,
+        Op::SetX(..) => 22,
         op if op.is_step() => 10,
         op if op.is_poke() => 11,
         _ => 7,
@@ -133,11 +135,12 @@ fn class(step: &Step) -> usize {
         Ans::Unimplemented => 5,
         Ans::Panic => 6,
         Ans::Counts(_) => 8,
-        Ans::Number(n) => NUMBERS + usize::from(n % 8),
+        Ans::Number(n) => NUMBERS + usize::from(n % 10),
         Ans::Leaf(_, _, l, ..) => LEAVES + usize::from(l % 4),
         Ans::Fault(_, s) => status(0, s),
         Ans::Data(_, _, s) => status(1, s),
         Ans::Insn(_, s) => status(2, s),
+        Ans::Page(_, _, s) => status(4, s),
     }
 }
 

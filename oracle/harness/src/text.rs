@@ -2,6 +2,7 @@
 use crate::census;
 use crate::op::{Ans, Line, Op};
 use crate::wild::Part;
+use crate::windows::Piece;
 use pimu::aarch64::Exception;
 use std::fmt::{self, Display, Formatter};
 
@@ -20,6 +21,7 @@ impl Display for Ans {
                 write!(f, "counts {n:x}:{digest:016x}")
             }
             Ans::Number(n) => write!(f, "no {n}"),
+            Ans::Page(w, p, s) => write!(f, "page {w:x} {p:x} {s:02x}"),
             Ans::Undefined => write!(f, "undefined"),
             Ans::Unimplemented => write!(f, "unimplemented"),
             Ans::Fault(a, s) => write!(f, "fault {a:x} {s:02x}"),
@@ -53,6 +55,10 @@ impl Display for Line {
             Line::Put(Part::Hint(s, k, p)) => write!(f, "w-hint {s:x} {k:x} {p:x}"),
             Line::Put(Part::Entry(s, [t, g, b, p])) => write!(f, "w-entry {s:x} {t:x} {g:x} {b:x} {p:x}"),
             Line::Put(Part::Fetch(v, l, p)) => write!(f, "w-fetch {v:x} {l:x} {p:x}"),
+            Line::Bytes(piece) => {
+                write!(f, "bytes ")?;
+                piece.bytes().iter().try_for_each(|b| write!(f, "{b:02x}"))
+            }
             Line::Op(op) => write!(f, "{op}"),
         }
     }
@@ -75,6 +81,7 @@ impl Display for Op {
             SetX(r, v) => write!(f, "x {r:x} {v:x}"),
             Abort(e) => write!(f, "abort {}", exception(&e)),
             Census(first, pages) => write!(f, "census {first:x} {pages:x}"),
+            Windows => write!(f, "win"),
             LeafAsid => write!(f, "l-asid"),
             LeafOn(r) => write!(f, "l-on {r:x}"),
             LeafUntag(r, va) => write!(f, "l-untag {r:x} {va:x}"),
@@ -185,6 +192,7 @@ impl Words<'_> {
             "x" => SetX(self.fit(0)?, self.num(1)?),
             "abort" => Abort(self.exception(0)?),
             "census" => Census(self.num(0)?, self.num(1)?),
+            "win" => Windows,
             "l-asid" => LeafAsid,
             "l-on" => LeafOn(self.regime(0)?),
             "l-untag" => LeafUntag(self.regime(0)?, self.num(1)?),
@@ -209,30 +217,44 @@ impl Words<'_> {
     }
 }
 
+/// The most bytes of a line.
+const MOST_BYTES: usize = 1024;
+
+/// One to 1,024 bytes, two digits each.
+fn bytes(words: &[&str]) -> Option<Vec<u8>> {
+    let digits = words.first()?.as_bytes();
+    let digit = |d: u8| char::from(d).to_digit(16);
+    let byte = |pair: &[u8]| Some((digit(pair[0])? << 4 | digit(pair[1])?) as u8);
+    let whole = digits.len() % 2 == 0 && (1..=MOST_BYTES).contains(&(digits.len() / 2));
+    whole.then(|| digits.chunks_exact(2).map(byte).collect())?
+}
+
 impl Line {
-    /// `Ok(None)` for an empty line or a comment.
-    pub fn parse(text: &str) -> Result<Option<Line>, String> {
+    /// None for an empty line or a comment; several for more bytes than one holds.
+    pub fn parse(text: &str) -> Result<Vec<Line>, String> {
         let bare = text.split('#').next().unwrap_or("");
         let words: Vec<&str> = bare.split_whitespace().collect();
         let Some((name, rest)) = words.split_first() else {
-            return Ok(None);
+            return Ok(Vec::new());
         };
         let w = Words(rest);
-        let line = w.around(name).or_else(|| w.operation(name).map(Line::Op));
-        line.map(Some)
-            .ok_or_else(|| format!("not a line of a trace: {}", bare.trim()))
+        let lines = match *name {
+            "bytes" => bytes(rest).map(|all| Piece::all(&all).map(Line::Bytes).collect()),
+            _ => w
+                .around(name)
+                .or_else(|| w.operation(name).map(Line::Op))
+                .map(|line| vec![line]),
+        };
+        lines.ok_or_else(|| format!("not a line of a trace: {}", bare.trim()))
     }
 
     /// A whole trace, each line with its number in the file.
     pub fn parse_all(text: &str) -> Result<Vec<(usize, Line)>, String> {
-        let mut lines = Vec::new();
+        let mut all = Vec::new();
         for (i, l) in text.lines().enumerate() {
-            match Line::parse(l) {
-                Ok(Some(line)) => lines.push((i + 1, line)),
-                Ok(None) => {}
-                Err(e) => return Err(format!("line {}: {e}", i + 1)),
-            }
+            let lines = Line::parse(l).map_err(|e| format!("line {}: {e}", i + 1))?;
+            all.extend(lines.into_iter().map(|line| (i + 1, line)));
         }
-        Ok(lines)
+        Ok(all)
     }
 }

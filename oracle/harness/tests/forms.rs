@@ -45,6 +45,7 @@ fn operations() -> Vec<Op> {
         Mark(true),
         SetX(n, v),
         Census(v, !v),
+        Windows,
         LeafAsid,
         LeafOn(3),
         LeafUntag(2, v),
@@ -68,7 +69,7 @@ fn operations() -> Vec<Op> {
 
 fn round_trip(line: &Line) {
     assert_eq!(decode(&encode(line)), Some(*line), "{line}");
-    assert_eq!(Line::parse(&line.to_string()), Ok(Some(*line)), "{line}");
+    assert_eq!(Line::parse(&line.to_string()), Ok(vec![*line]), "{line}");
 }
 
 #[test]
@@ -93,6 +94,8 @@ fn answers_come_back() {
         Ans::Leaf(v, 0x3F, 3, 7, 3, true, true),
         Ans::Pair(v, !v),
         Ans::Number(6),
+        Ans::Number(9),
+        Ans::Page(63, 15, 0x0E),
         Ans::Undefined,
         Ans::Unimplemented,
         Ans::Fault(v, 0x17),
@@ -166,6 +169,12 @@ fn what_is_no_line_is_refused() {
         "abort data 0 1",
         "nonsense",
         "x g 0",
+        "bytes",
+        "bytes 0",
+        "bytes 123",
+        "bytes 0g",
+        "bytes +1",
+        "bytes é0",
     ] {
         assert!(Line::parse(bad).is_err(), "{bad}");
     }

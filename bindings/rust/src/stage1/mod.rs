@@ -8,7 +8,12 @@
     clippy::assign_op_pattern,
     clippy::collapsible_if,
     clippy::if_same_then_else,
-    clippy::manual_map
+    clippy::manual_contains
+)]
+#![allow(
+    clippy::manual_is_multiple_of,
+    clippy::manual_map,
+    clippy::needless_range_loop
 )]
 #![allow(
     clippy::new_without_default,
@@ -29,4 +34,5 @@ pub mod sysreg;
 pub mod system;
 pub mod tlb;
 pub mod walk;
+pub mod windows;
 pub mod word;

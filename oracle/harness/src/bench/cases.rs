@@ -1,6 +1,6 @@
 //! The cases, in the order of the table.
 use super::scene::{same_entry, same_hint, Scene, LOCAL, NOTHING, PAGE};
-use super::{Case, Work};
+use super::{Case, Lists, Work};
 use crate::count::MOST_PAGES;
 use a72::Rate;
 use pimu::aarch64::sysreg::key;
@@ -17,6 +17,7 @@ const ZEROING: f64 = 1.0;
 const EXCEPTION: f64 = 1.6;
 const CENSUS: f64 = 0.95;
 const FRAMES: f64 = 1.0;
+const WINDOWS: f64 = 1.1;
 const LENT_HINT: f64 = 1.3;
 const LENT_ENTRY: f64 = 1.2;
 const LENT_WALK: f64 = 0.95;
@@ -28,6 +29,7 @@ fn plain_bar(work: Work) -> Option<f64> {
         Work::System([0, 8, ..]) => Some(1.0),
         Work::System(_) | Work::Register(_) | Work::Level | Work::Mark => Some(1.2),
         Work::General(_) | Work::DataAbort | Work::Svc => Some(1.2),
+        Work::Windows(_) => Some(WINDOWS),
         _ => Some(1.0),
     }
 }
@@ -104,6 +106,18 @@ fn frames() -> Vec<Case> {
     ]
 }
 
+fn windows() -> Vec<Case> {
+    let windows = |name, lists| {
+        let wide = Scene { wide: true, ..scene() };
+        case(name, WINDOWS, Work::Windows(lists), [0, 1], wide)
+    };
+    vec![
+        windows("windows: 64 of 16 pages, all apart", Lists::Apart),
+        windows("windows: 64 of 16 pages, the first meets", Lists::Meeting),
+        windows("windows: 16 of one page, all apart", Lists::Sixteen),
+    ]
+}
+
 pub fn cases() -> Vec<Case> {
     [
         translations(),
@@ -115,6 +129,7 @@ pub fn cases() -> Vec<Case> {
         lent(),
         second_page_faults(),
         frames(),
+        windows(),
     ]
     .into_iter()
     .flatten()

@@ -1,10 +1,11 @@
 //! The Rust behind the library's own signatures: numbers in and out, lent words of RAM, the descriptors read, and the
-//! checks 1 to 3 and 7 before pimu's function. So both sides do the same work.
+//! checks 1 to 3, 7 and 9 before pimu's function. So both sides do the same work.
 use super::rust::Quick;
-use super::{repeat, summed, told, Work, DONE, STORED};
+use super::{met, repeat, summed, told, Work, DONE, STORED};
 use crate::census::{Counts, COUNTS};
 use crate::library::Answer;
-use crate::number::{FAULT, NAMES_NOTHING, UNDEFINED, UNIMPLEMENTED};
+use crate::number::{CHECK_LIST, FAULT, NAMES_NOTHING, PAGE_FAULTS, UNDEFINED, UNIMPLEMENTED};
+use crate::windows::{List, PageFault};
 use crate::{refusal, rust, Ram};
 use pimu::aarch64::access::{self, Halt};
 use pimu::aarch64::{Abort, Cpu, Exception, Memory};
@@ -146,11 +147,40 @@ fn census(c: &Cpu, first: u64, pages: u64, counts: &mut Counts, base: u64, ram: 
     0
 }
 
+#[inline(never)]
+fn windows(c: &Cpu, list: &[u8], out: &mut [u64; 3], base: u64, ram: &mut [u8]) -> u64 {
+    let n = missed(c, base, ram.len());
+    if n != 0 {
+        return n;
+    }
+    let Some(list) = List::read(list) else {
+        return CHECK_LIST;
+    };
+    match rust::windows(c, &mut Quick { base, bytes: ram }, list.windows()) {
+        Ok(Some((first, second))) => *out = [1, first as u64, second as u64],
+        Ok(None) => *out = [0; 3],
+        Err(PageFault { window, page, status }) => {
+            *out = [window as u64, page as u64, status.into()];
+            return PAGE_FAULTS;
+        }
+    }
+    0
+}
+
+/// Of a list that was right and of which no page faulted.
+pub(super) fn met_of(n: u64, out: &[u64; 3]) -> u64 {
+    match (n, *out) {
+        (0, [1, first, second]) => met(Some((first as usize, second as usize))),
+        (0, _) => met(None),
+        _ => unreachable!(),
+    }
+}
+
 /// Whether a case has this side.
 pub fn has(work: Work) -> bool {
     matches!(
         work,
-        Work::Translate(_) | Work::Load(_) | Work::Store(_) | Work::Census(_)
+        Work::Translate(_) | Work::Load(_) | Work::Store(_) | Work::Census(_) | Work::Windows(_)
     )
 }
 
@@ -180,6 +210,13 @@ pub fn run(work: Work, args: [u64; 2], c: &mut Cpu, ram: &mut Ram, n: usize) -> 
             repeat(n, args, |first| {
                 let n = census(c, first, pages, counts, base, bytes);
                 summed(n, told(counts), 0)
+            })
+        }
+        Work::Windows(lists) => {
+            let (lists, out) = (lists.bytes(), &mut [0; 3]);
+            repeat(n, args, |i| {
+                let n = windows(c, &lists[i as usize], out, base, bytes);
+                met_of(n, out)
             })
         }
         _ => unreachable!("no such side"),

@@ -1,8 +1,9 @@
 //! The library's side: its function for each operation, on a core.
+use super::checked::met_of;
 use super::{both, fault, repeat, summed, told, Work, DONE, STORED};
 use crate::census::COUNTS;
 use crate::ffi::each::{frames_44100, frames_48000, Lent};
-use crate::ffi::{count, Held};
+use crate::ffi::{count, windows_into, Held};
 use crate::library::Answer;
 use crate::Ram;
 use a72::Rate;
@@ -17,6 +18,13 @@ pub fn run(work: Work, args: [u64; 2], core: &mut Held, ram: &mut Ram, n: usize)
         return repeat(n, args, |first| {
             let n = count(core, first, pages, counts, base, &ram.bytes);
             summed(n, told(counts), 0)
+        });
+    }
+    if let Work::Windows(lists) = work {
+        let (lists, out) = (lists.bytes(), &mut [0; 3]);
+        return repeat(n, args, |i| {
+            let n = windows_into(core, &lists[i as usize], out, base, &ram.bytes);
+            met_of(n, out)
         });
     }
     let mut lent = Lent::new(core, base, &mut ram.bytes);
@@ -60,7 +68,7 @@ pub fn run(work: Work, args: [u64; 2], core: &mut Held, ram: &mut Ram, n: usize)
             repeat(n, args, |v| summed(lent.general(r, v), DONE, 0))
         }
         Work::DataAbort => repeat(n, args, |addr| summed(lent.abort(&[5, addr, 1, 7]), DONE, 0)),
-        Work::Census(_) => unreachable!("made above"),
+        Work::Census(_) | Work::Windows(_) => unreachable!("made above"),
         Work::Frames(Rate::Hz48000) => repeat(n, args, |cycles| both(frames_48000(cycles))),
         Work::Frames(Rate::Hz44100) => repeat(n, args, |cycles| both(frames_44100(cycles))),
         Work::Svc => repeat(n, args, |i| summed(lent.abort(&[1, i, 0, 0]), DONE, 0)),

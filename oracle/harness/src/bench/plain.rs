@@ -1,11 +1,12 @@
 //! The plain core's side: its methods, each behind one call, as on the Rust's side.
-use super::{both, fault, repeat, Work, DONE, STORED};
+use super::{both, fault, met, repeat, Work, DONE, STORED};
 use crate::census::{COUNTS, FLAT, RIGHTS, STATUS};
 use crate::plain::access;
 use crate::Ram;
 use a72::registers::Key;
 use a72::{
     Access, Census, Core, Exception, Frames, Level, Ram as Window, Rate, Status, Stop, SystemOperation,
+    WindowsError,
 };
 use std::hint::black_box;
 
@@ -67,6 +68,11 @@ fn general(c: &mut Core, r: u32, v: u64) {
 #[inline(never)]
 fn census(c: &Core, m: &Window, first: u64, pages: u64) -> Result<Census, Stop> {
     c.census(m, first, pages)
+}
+
+#[inline(never)]
+fn windows(c: &Core, m: &Window, list: &[u8]) -> Result<Option<(usize, usize)>, WindowsError> {
+    c.windows_of_bytes(m, list)
 }
 
 #[inline(never)]
@@ -163,5 +169,12 @@ pub fn run(work: Work, args: [u64; 2], c: &mut Core, ram: &mut Ram, n: usize) ->
             both((whole, rest))
         }),
         Work::Svc => repeat(n, args, |i| done(c.take(&Exception::Svc(i as u16)))),
+        Work::Windows(lists) => {
+            let lists = lists.bytes();
+            repeat(n, args, |i| match windows(c, m, &lists[i as usize]) {
+                Ok(found) => met(found),
+                Err(_) => unreachable!(),
+            })
+        }
     }
 }

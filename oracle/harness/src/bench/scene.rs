@@ -10,6 +10,9 @@ const LENGTH: usize = 0x20_0000;
 /// The tables: the first of every walk, and the next ones.
 const TABLES: [u64; 4] = [BASE + 0x1000, BASE + 0x2000, BASE + 0x3000, BASE + 0x4000];
 
+/// A second last table.
+const WIDER: u64 = BASE + 0x5000;
+
 /// A page and a page whose walk takes its entry and its hints; and one that takes its hints alone.
 pub const PAGE: u64 = 0x1234;
 
@@ -41,6 +44,8 @@ pub struct Scene {
     pub on: bool,
     /// A page that is not mapped, with each one whose number ends alike.
     pub hole: Option<u64>,
+    /// Whether a second last table maps the next 512 pages, from every other entry of the table above.
+    pub wide: bool,
     /// Whether all 1,024 entries are live.
     pub full: bool,
     /// X0 and X1.
@@ -61,6 +66,7 @@ impl Default for Scene {
             level: 1,
             on: true,
             hole: None,
+            wide: false,
             full: false,
             x: [PAGE << 12, PAGE << 12 | 8],
         }
@@ -84,6 +90,12 @@ impl Scene {
                 (bits, _) => (BASE + (i << 12)) | bits,
             };
             ram.put(TABLES[last] + 8 * i, 8, leaf);
+            if self.wide {
+                ram.put(WIDER + 8 * i, 8, leaf + (512 << 12));
+                if i % 2 == 1 {
+                    ram.put(TABLES[last - 1] + 8 * i, 8, WIDER | 3);
+                }
+            }
         }
         ram
     }

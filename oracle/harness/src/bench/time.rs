@@ -95,11 +95,7 @@ pub fn time(case: &Case, other: Side, runs: usize) -> Result<Times, String> {
     let (some, _) = run(&mut pair, Side::Rust, few);
     let n = ((few as f64 * RUN / some) as usize).clamp(case.calls(16), 4000) & !1;
     pair.run(other, few);
-    let runs = if case.parts() == 1 {
-        runs
-    } else {
-        runs.div_ceil(10)
-    };
+    let runs = if case.is_long() { runs.div_ceil(10) } else { runs };
     let parts = case.parts() as f64;
     let (mut rust, mut ours) = (Least::new(), Least::new());
     for _ in 0..runs {

@@ -50,7 +50,7 @@ fn main() {
     let (said, good) = verdict(seen.cached, held, ["as without a cache", "NOT AS WITHOUT A CACHE"]);
     println!(
         "translations {} (flat {}, walked {}, from the cache {}); stale but excused {}; excused and yet equal {}; \
-         censuses {}; {said}",
+         censuses {}; lists of windows {}; {said}",
         seen.translations,
         seen.flat,
         seen.walked,
@@ -58,6 +58,7 @@ fn main() {
         seen.stale_excused,
         seen.equal_though_excused,
         seen.censuses,
+        seen.lists,
     );
     finish(good)
 }

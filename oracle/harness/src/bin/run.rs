@@ -13,6 +13,7 @@ const USAGE: &str = "run TRACE [--full] [--right | --model | --c | --each]
 fn moves_ram(line: &Line) -> bool {
     match line {
         Line::Op(op) => op.may_write_ram(),
+        Line::Bytes(_) => false,
         _ => true,
     }
 }

@@ -3,7 +3,7 @@
 //! Each gives one of the numbers in [`crate::number`]. An [`Answer`] takes the value, or the address of a data abort,
 //! and the descriptors read. Without a value or an address that word stays as it was, and of a call that is refused,
 //! undefined or unimplemented the whole answer.
-use super::{census, exception, Held, UNWRITTEN};
+use super::{census, exception, windows, Held, UNWRITTEN};
 use crate::library::*;
 use crate::number::{status, DONE, LAST_CHECK, UNDEFINED, UNIMPLEMENTED};
 use crate::op::{Ans, Op};
@@ -151,8 +151,10 @@ fn other(n: u64, ans: &Answer) -> Ans {
 /// One operation of the list, by its function.
 pub(super) fn step(core: &mut Held, op: &Op, ram: &mut Ram) -> (Ans, u64) {
     use Op::*;
-    if let Census(first, pages) = *op {
-        return (census(core, first, pages, ram), 0);
+    match *op {
+        Census(first, pages) => return (census(core, first, pages, ram), 0),
+        Windows => return (windows(core, ram), 0),
+        _ => {}
     }
     let (at, len) = (ram.bytes.lent(op.may_write_ram()), ram.bytes.len());
     // Sound: the window's bytes, which `ram` lends. Where they are sealed nobody here writes them.

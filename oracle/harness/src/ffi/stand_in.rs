@@ -4,9 +4,9 @@ use super::{boxed, decode, encode_answer, state_of, RETIRED};
 use crate::census::Counts;
 pub use crate::library::Handle;
 use crate::model::DocCore;
-use crate::number::{DONE, NAMES_NOTHING};
+use crate::number::{DONE, NAMES_NOTHING, PAGE_FAULTS};
 use crate::op::{Ans, Line, Op};
-use crate::{place, Core, Ram};
+use crate::{place, refusal, Core, Ram};
 use std::ffi::c_void;
 use std::slice::{from_raw_parts, from_raw_parts_mut};
 
@@ -67,7 +67,11 @@ pub unsafe fn a72_step(
     };
     let mut core = held(state);
     let mut window = Ram::of(base, bytes.to_vec());
-    let answer = core.step(&op, &mut window);
+    let answer = match op {
+        // What a list comes to is the other function's, its refusals too.
+        Op::Windows if refusal(&Op::Census(0, 0), core.regs.level, &window, |_| true).is_none() => Ans::Ok,
+        _ => core.step(&op, &mut window),
+    };
     if window.writes != 0 {
         bytes.copy_from_slice(&window.bytes);
     }
@@ -101,4 +105,30 @@ pub unsafe fn a72_census(
         Ans::Number(n) => n.into(),
         other => unreachable!("a census gives no {other}"),
     }
+}
+
+/// # Safety
+/// As above.
+pub unsafe fn a72_windows(
+    core: *mut Handle,
+    list: *const u8,
+    list_len: usize,
+    out: *mut [u64; 3],
+    base: u64,
+    ram: *const u8,
+    ram_bytes: usize,
+) -> u64 {
+    let mut window = Ram::of(base, from_raw_parts(ram, ram_bytes).to_vec());
+    window.list = from_raw_parts(list, list_len).to_vec();
+    match held(words(core)).step(&Op::Windows, &mut window) {
+        Ans::Number(n) => return n.into(),
+        Ans::Page(window, page, status) => {
+            *out = [window, page, status.into()];
+            return PAGE_FAULTS;
+        }
+        Ans::Pair(first, second) => *out = [1, first, second],
+        Ans::None => *out = [0; 3],
+        other => unreachable!("a list of windows gives no {other}"),
+    }
+    DONE
 }

@@ -2,6 +2,7 @@
 use crate::census;
 use crate::op::{Ans, Line, Op};
 use crate::wild::Part;
+use crate::windows::Piece;
 use pimu::aarch64::Exception;
 
 pub fn exception(e: &Exception) -> [u64; 4] {
@@ -54,6 +55,7 @@ pub fn encode(line: &Line) -> [u64; 8] {
         Line::Put(Part::Hint(slot, key, pa)) => vec![65, slot.into(), key, pa],
         Line::Put(Part::Entry(slot, r)) => vec![66, slot.into(), r[0], r[1], r[2], r[3]],
         Line::Put(Part::Fetch(page, level, pa)) => vec![67, page, level.into(), pa],
+        Line::Bytes(piece) => [vec![68], piece.words()].concat(),
         Line::Op(ref op) => operation(op),
     };
     let mut out = [0; 8];
@@ -77,6 +79,7 @@ fn operation(op: &Op) -> Vec<u64> {
         SetX(r, v) => vec![11, r.into(), v],
         Abort(e) => [&[12][..], &exception(&e)].concat(),
         Census(first, pages) => vec![13, first, pages],
+        Windows => vec![14],
         LeafAsid => vec![20],
         LeafOn(r) => vec![21, r.into()],
         LeafUntag(r, va) => vec![22, r.into(), va],
@@ -106,6 +109,7 @@ pub fn decode(w: &[u64; 8]) -> Option<Line> {
         65 => Line::Put(Part::Hint(w[1] as u16, w[2], w[3])),
         66 => Line::Put(Part::Entry(w[1] as u16, [w[2], w[3], w[4], w[5]])),
         67 => Line::Put(Part::Fetch(w[1], w[2] as u32, w[3])),
+        68 => Line::Bytes(Piece::of_words(w[1], &w[2..])?),
         _ => Line::Op(operation_of(w)?),
     })
 }
@@ -129,6 +133,7 @@ fn operation_of(w: &[u64; 8]) -> Option<Op> {
         11 => SetX(u(1), w[2]),
         12 => Abort(exception_of(&w[1..])?),
         13 => Census(w[1], w[2]),
+        14 => Windows,
         20 => LeafAsid,
         21 => LeafOn(regime()?),
         22 => LeafUntag(regime()?, w[2]),
@@ -169,6 +174,7 @@ pub fn encode_answer(a: &Ans) -> [u64; 4] {
             let (n, digest) = census::summary(counts);
             [11, n, digest, 0]
         }
+        Ans::Page(w, p, s) => [12, w, p, s.into()],
         Ans::Panic => [u64::MAX, 0, 0, 0],
     }
 }
@@ -195,6 +201,7 @@ pub fn decode_answer(w: &[u64; 4]) -> Ans {
         8 => Ans::Fault(w[1], w[2] as u8),
         9 => Ans::Data(w[1], w[3] != 0, w[2] as u8),
         10 => Ans::Insn(w[1], w[2] as u8),
+        12 => Ans::Page(w[1], w[2], w[3] as u8),
         _ => Ans::Panic,
     }
 }

@@ -248,6 +248,7 @@ impl Generator {
             let pages = self.aside.below(2) << 63;
             self.op(Op::Census(u64::MAX, pages));
         }
+        self.glimpse_refused();
         self.op(Op::PokeLevel(self.level));
     }
 }

@@ -14,15 +14,20 @@ impl DocCore {
         (1 << 52) - before - u64::from(self.makes(Mistake::CensusNotToTop))
     }
 
-    /// The number: 7 for more than 65,536 pages or a range that passes 2^64, after 1 and 2.
-    fn census_number(&self, ram: &Ram, first: u64, pages: u64) -> Option<u8> {
+    /// The numbers 1 and 2 of what looks at RAM.
+    pub(super) fn ram_number(&self, ram: &Ram) -> Option<u8> {
         let past = |bytes: u64| ram.base.checked_add(bytes - 1).is_none();
         match ram.bytes.len() as u64 {
             _ if self.regs.level >= 4 => Some(1),
             bytes if bytes > 0 && past(bytes) => Some(2),
-            _ if pages > 65536 || pages > self.pages_from(first) => Some(7),
             _ => None,
         }
+    }
+
+    /// The number: 7 for more than 65,536 pages or a range that passes 2^64, after 1 and 2.
+    fn census_number(&self, ram: &Ram, first: u64, pages: u64) -> Option<u8> {
+        let range = || (pages > 65536 || pages > self.pages_from(first)).then_some(7);
+        self.ram_number(ram).or_else(range)
     }
 
     /// EL0 has EL1's regime.

@@ -73,12 +73,35 @@ pub enum Mistake {
     ReadsLastStore,
     ReadsAtNone,
     ReadsEntryRepeats,
+    WindowsForEl0,
+    WindowsByView,
+    WindowsForRead,
+    WindowsMeetsItself,
+    WindowsLastPageUnseen,
+    WindowsBySecondNumber,
+    WindowsEndAtTopRefused,
+    WindowsPairBeforeFault,
+    WindowsFaultByPage,
+    WindowsInTurns,
+    WindowsCountOf65,
+    WindowsLongerList,
+    WindowsAnyStart,
+    Windows17Pages,
+    WindowsEmptyRefused,
+    WindowsListFirst,
+    WindowsUntagsOnce,
+    WindowsFromCache,
+    WindowsCountWalks,
+    WindowsByBlock,
+    WindowsOutsideFaults,
+    WindowsFlatUntested,
+    WindowsAlwaysEl1,
 }
 
 use Mistake::*;
 
 /// Each mistake with what it does, by number from 1.
-pub const MISTAKES: [(Mistake, &str); 71] = [
+pub const MISTAKES: [(Mistake, &str); 94] = [
     (FlagBeforeSize, "access flag judged before the output size"),
     (
         PageDropsOnePage,
@@ -210,4 +233,39 @@ pub const MISTAKES: [(Mistake, &str); 71] = [
         ReadsEntryRepeats,
         "an answer from an entry reports what its walk read",
     ),
+    (WindowsForEl0, "windows by EL0's rights in EL1&0"),
+    (
+        WindowsByView,
+        "windows by EL0's rights at EL0 and while unprivileged",
+    ),
+    (WindowsForRead, "windows for a privileged read"),
+    (WindowsMeetsItself, "a window meets itself"),
+    (WindowsLastPageUnseen, "a window's last page is not compared"),
+    (
+        WindowsBySecondNumber,
+        "first pair of windows by the higher number",
+    ),
+    (WindowsEndAtTopRefused, "a window that ends at 2^64 refused"),
+    (
+        WindowsPairBeforeFault,
+        "a pair of windows before a later page's fault",
+    ),
+    (
+        WindowsFaultByPage,
+        "first fault of windows by page and then window",
+    ),
+    (WindowsInTurns, "a list has each window's length after its start"),
+    (WindowsCountOf65, "a list of 65 windows taken"),
+    (WindowsLongerList, "a list with bytes too many taken"),
+    (WindowsAnyStart, "a window's low twelve bits dropped"),
+    (Windows17Pages, "a window of 17 pages taken"),
+    (WindowsEmptyRefused, "a list of no windows refused"),
+    (WindowsListFirst, "a wrong list refused before level and RAM"),
+    (WindowsUntagsOnce, "a window untags its first page alone"),
+    (WindowsFromCache, "windows take pages from live entries"),
+    (WindowsCountWalks, "windows move the counter of walks"),
+    (WindowsByBlock, "pages of one block are one page of windows"),
+    (WindowsOutsideFaults, "a page of windows outside RAM faults"),
+    (WindowsFlatUntested, "flat pages of windows as they are given"),
+    (WindowsAlwaysEl1, "windows are EL1&0's at every level"),
 ];

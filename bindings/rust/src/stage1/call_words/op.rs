@@ -163,6 +163,7 @@ pub fn call_of(op: &[u64; 8]) -> DecodedCall {
         11 => DecodedCall::Known(Call::General(a, b)),
         12 => abort_of(a, b, c, d),
         13 => DecodedCall::Known(Call::Census(a, b)),
+        14 => DecodedCall::Known(Call::Windows),
         _ => DecodedCall::Unknown,
     }
 }

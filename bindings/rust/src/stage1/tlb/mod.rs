@@ -8,6 +8,7 @@ use hint::{FetchHint, Hint, NO_HINT};
 pub mod access;
 pub mod count;
 pub mod entry;
+pub mod fresh;
 pub mod hint;
 pub mod translate;
 pub mod work;

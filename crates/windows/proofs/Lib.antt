@@ -1,0 +1,8 @@
+-- What the proofs share.
+pub mod Reading
+pub mod First
+pub mod Decoding
+pub mod Filling
+pub mod Gathering
+pub mod Pairing
+pub mod Whole

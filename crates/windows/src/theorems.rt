@@ -1,0 +1,1 @@
+// What holds of every list of windows. Each function computes nothing: its contract is the theorem.

@@ -1,0 +1,73 @@
+//! What looks at core and RAM and moves nothing: the counts of a census, by `a72_census`, and what a list of windows comes
+//! to, by `a72_windows`.
+use super::{library, Held, UNWRITTEN};
+use crate::census::{Counts, COUNTS};
+use crate::number;
+use crate::op::Ans;
+use crate::Ram;
+use library::{a72_census, a72_windows};
+
+/// `a72_census`: its number.
+#[inline(always)]
+pub fn count(core: &Held, first: u64, pages: u64, counts: &mut Counts, base: u64, ram: &[u8]) -> u64 {
+    // Sound: each pointer is that of a core, an array or a slice, with its own length; the counts are borrowed exclusively.
+    unsafe { a72_census(core.handle(), first, pages, counts, base, ram.as_ptr(), ram.len()) }
+}
+
+/// By `a72_census`. Where it is refused no count may be written.
+pub(super) fn census(core: &Held, first: u64, pages: u64, ram: &mut Ram) -> Ans {
+    let mut counts = Box::new([UNWRITTEN; COUNTS]);
+    // Sound: the window's bytes, which `ram` lends to be read.
+    let bytes = unsafe { std::slice::from_raw_parts(ram.bytes.lent(false), ram.bytes.len()) };
+    match count(core, first, pages, &mut counts, ram.base, bytes) {
+        number::DONE => Ans::Counts(counts),
+        n @ 1..=number::LAST_CHECK if *counts == [UNWRITTEN; COUNTS] => Ans::Number(n as u8),
+        _ => Ans::Panic,
+    }
+}
+
+/// The answer by `a72_census`, where `a72_step` said the same of it.
+pub(super) fn counted(said: Ans, answer: Ans) -> Ans {
+    match (said, answer) {
+        (Ans::Ok, answer @ Ans::Counts(_)) => answer,
+        (Ans::Number(n), Ans::Number(m)) if n == m => Ans::Number(n),
+        _ => Ans::Panic,
+    }
+}
+
+/// `a72_windows`: its number.
+#[inline(always)]
+pub fn windows_into(core: &Held, list: &[u8], out: &mut [u64; 3], base: u64, ram: &[u8]) -> u64 {
+    let (at, len) = (ram.as_ptr(), ram.len());
+    // Sound: each pointer is that of a core, an array or a slice, with its own length; `out` is borrowed exclusively.
+    unsafe { a72_windows(core.handle(), list.as_ptr(), list.len(), out, base, at, len) }
+}
+
+/// By `a72_windows`. Where the list is refused nothing may be written, and never a byte of it.
+pub(super) fn windows(core: &Held, ram: &mut Ram) -> Ans {
+    // A list may begin at any address.
+    let skip = ram.list.len() % 8;
+    let bytes = [&[UNWRITTEN as u8; 8][skip..], &ram.list].concat();
+    let (list, mut out) = (bytes.clone(), [UNWRITTEN; 3]);
+    // Sound: the window's bytes, which `ram` lends to be read.
+    let window = unsafe { std::slice::from_raw_parts(ram.bytes.lent(false), ram.bytes.len()) };
+    let number = windows_into(core, &list[8 - skip..], &mut out, ram.base, window);
+    match (number, out) {
+        _ if list != bytes => Ans::Panic,
+        (number::DONE, [1, first, second]) => Ans::Pair(first, second),
+        (number::DONE, [0, 0, 0]) => Ans::None,
+        (number::PAGE_FAULTS, [window, page, status @ 0..=0xFF]) => Ans::Page(window, page, status as u8),
+        (n @ 1..=number::LAST_CHECK, [UNWRITTEN, UNWRITTEN, UNWRITTEN]) => Ans::Number(n as u8),
+        _ => Ans::Panic,
+    }
+}
+
+/// The answer by `a72_windows`, where `a72_step` said done, or refused alike.
+pub(super) fn looked(said: Ans, answer: Ans) -> Ans {
+    match (said, answer) {
+        (Ans::Ok, Ans::Number(1 | 2)) => Ans::Panic,
+        (Ans::Ok, answer) => answer,
+        (Ans::Number(n), Ans::Number(m)) if n == m => Ans::Number(n),
+        _ => Ans::Panic,
+    }
+}
