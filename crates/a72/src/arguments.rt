@@ -91,7 +91,8 @@ pub fn words<R: Env + AllocGlobal>(rt: &R) -> Result<Vec<String>, Stop> {
     }
 }
 
-fn path<'a>(word: &'a str, name: &'static str) -> Result<&'a str, Stop> {
+/// The path of a file, by its name in the usage.
+pub fn path<'a>(word: &'a str, name: &'static str) -> Result<&'a str, Stop> {
     if PATH < word.len() {
         return Err(Stop::Argument(Wrong::LongPath(name)));
     }

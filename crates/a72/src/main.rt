@@ -1,12 +1,14 @@
 #![tactic(auto)]
 //! The tool: traces on the proved core, the pages that read most, an audit of its cache, its counters by level, one
-//! translation step by step, an address space as ranges, a census of pages, cycles as sample frames, and the chord.
+//! translation step by step, an address space as ranges, a census of pages, windows that share a page, cycles as sample
+//! frames, and the chord.
 mod arguments;
 mod commands;
 mod ranges;
 mod stop;
 mod totals;
 mod usage;
+mod windows;
 
 use arguments::Arguments;
 use std::io;

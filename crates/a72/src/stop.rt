@@ -12,6 +12,8 @@ use std::process::ExitCode;
 use thiserror::Error;
 use trace_file::report;
 use trace_file::report::{Message, Trouble};
+use windows_report::refusal::Refusal;
+use windows_report::report as list;
 
 /// An argument that is no such thing.
 #[derive(Clone, Copy, Debug, Error)]
@@ -53,6 +55,17 @@ pub enum Stop {
     Trace(#[from] Trouble),
     #[error(transparent)]
     Census(#[from] Refused),
+    /// what the system says of LIST
+    #[error("{0}")]
+    List(io::Error),
+    #[error("a list of more than 10000 bytes (64 KiB)")]
+    LongList,
+    /// LIST is wrong
+    #[error("a wrong list")]
+    WrongList(Refusal),
+    /// two windows share a page, or one faults, as standard output says
+    #[error("windows that are not apart")]
+    NotApart,
     /// the core gave an answer that a walk now would not, as standard output says
     #[error("a stale answer")]
     Stale,
@@ -66,6 +79,17 @@ pub enum Stop {
     Output(#[from] io::Error),
     #[error("out of memory")]
     Memory(#[from] AllocError),
+}
+
+impl From<list::Refused> for Stop {
+    fn from(refused: list::Refused) -> Self {
+        match refused {
+            list::Refused::Level => Stop::Census(Refused::Level),
+            list::Refused::Window => Stop::Census(Refused::Window),
+            list::Refused::List(refusal) => Stop::WrongList(refusal),
+            list::Refused::Memory(error) => Stop::Memory(error),
+        }
+    }
 }
 
 impl Stop {
@@ -145,6 +169,18 @@ fn message(alloc: Global, words: &[String], stop: Stop) -> Result<Message<'_>, A
             let reason = report::system(alloc, error)?;
             return Ok(Message::new(Some("write"), reason));
         }
+        Stop::List(error) => {
+            let reason = report::system(alloc, error)?;
+            return Ok(Message::new(Some(word_at(words, 2)), reason));
+        }
+        Stop::LongList => {
+            let reason = format!(in alloc; "{stop}")?;
+            return Ok(Message::new(Some(word_at(words, 2)), reason));
+        }
+        Stop::WrongList(Refusal { byte, reason }) => {
+            let reason = format!(in alloc; "{reason}")?;
+            return Ok(Message::at_byte(word_at(words, 2), byte, reason));
+        }
         _ => format!(in alloc; "{stop}")?,
     };
     Ok(Message::new(None, reason))
@@ -153,7 +189,7 @@ fn message(alloc: Global, words: &[String], stop: Stop) -> Result<Message<'_>, A
 /// Says why the call of these words is not carried out: as JSON where it asks for that, else in words, and the usage
 /// after a wrong call.
 pub fn show<W: Write>(out: &mut W, alloc: Global, words: &[String], stop: Stop) -> io::Result<()> {
-    if matches!(stop, Stop::Stale | Stop::Unfinished) {
+    if matches!(stop, Stop::Stale | Stop::Unfinished | Stop::NotApart) {
         return Ok(());
     }
     let message = message(alloc, words, stop)?;

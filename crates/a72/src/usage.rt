@@ -5,8 +5,9 @@ use std::io::Write;
 use std::{fmt, io};
 use strsim::levenshtein;
 
-const COMMANDS: [&str; 10] = [
-    "run", "reads", "audit", "walk", "counters", "census", "ranges", "frames", "chord", "help",
+const COMMANDS: [&str; 11] = [
+    "run", "reads", "audit", "walk", "counters", "census", "ranges", "windows", "frames", "chord",
+    "help",
 ];
 
 // What each command does.
@@ -31,14 +32,18 @@ census   carries out a trace, then shows how the PAGES pages of 4 KiB from FIRST
          fresh walk at the core's level, or as named: a table, and a map; --svg: the map as a picture.
 ranges   carries out a trace, then shows what the tables map, from FIRST to LAST (hexadecimal) or of all addresses, at
          the core's level, or as named: a row for each range of addresses that are mapped on and alike.
+windows  carries out a trace, then shows where the windows of LIST lie, each page for a privileged write at the core's
+         level: runs of physical pages, and those that the first two windows with one in common share, or the first
+         page that faults; the status is 1 where there is one. LIST is a file of numbers, the lowest byte first: how many
+         windows (2 bytes), their first addresses (8 bytes each), and then their pages of 4 KiB (2 bytes each).
 frames   shows a TOTAL of cycles (decimal; 1500000000 are a second) as sample frames, at 48000 and 44100 frames a
          second, or at one of them: whole frames, and exactly what is left of the next, in cycles or 147ths of one.
 chord    sixteen voices, a page each, and every order of a small chord: no tone is lost; against a stale
          cache, which loses one.
 
 TRACE is a file of lines, or - for standard input, which is carried out as it comes: tr, dpa, fpa, ld, st, if, sys,
-reg, level, mark, x, abort, census; fresh, window, zero, poke, load; leaves l-..; pokes p-..; parts w-.. Numbers are
-hexadecimal without 0x; # starts a comment. Names stand for numbers as an assembler has them: reg TCR_EL1 19,
+reg, level, mark, x, abort, census, win; fresh, window, zero, poke, load, bytes; leaves l-..; pokes p-..; parts w-..
+Numbers are hexadecimal without 0x; # starts a comment. Names stand for numbers as an assembler has them: reg TCR_EL1 19,
 tlbi vae1is x1, at s1e1r x0, dc zva x2. A file with a bad line gets a message `a72: FILE:LINE:COLUMN: reason`
 on standard error, and nothing else happens. --image FILE@ADDRESS: the bytes of FILE, a raw dump, are the
 window before the first line, from the physical ADDRESS on. --json: what a command says as one JSON document, of run
@@ -56,7 +61,7 @@ pub fn is_command(word: &str) -> bool {
 }
 
 // The calls.
-const CALLS: [&str; 10] = [
+const CALLS: [&str; 11] = [
     "a72 run TRACE [--short|--words] [--full]",
     "a72 reads TRACE [N]",
     "a72 audit TRACE [--all]",
@@ -64,6 +69,7 @@ const CALLS: [&str; 10] = [
     "a72 counters TRACE",
     "a72 census TRACE FIRST PAGES [LEVEL] [--svg]",
     "a72 ranges TRACE [FIRST LAST] [LEVEL]",
+    "a72 windows TRACE LIST",
     "a72 frames TOTAL [48000|44100]",
     "a72 chord",
     "with a TRACE: [--image FILE@ADDRESS]; anywhere: --json, -h, --help, --version",
@@ -87,7 +93,7 @@ pub struct Version {
 /// The calls, and what each command does.
 #[derive(Clone, Copy, Serialize)]
 pub struct Help {
-    calls: [&'static str; 10],
+    calls: [&'static str; 11],
     details: &'static str,
 }
 

@@ -29,11 +29,12 @@ pub enum Kind {
     TranslateFetch,
     TranslateRead,
     TranslateWrite,
+    Windows,
     General,
 }
 
 /// The kinds, each with its name.
-pub const KINDS: [(Kind, &str); 21] = [
+pub const KINDS: [(Kind, &str); 22] = [
     (Kind::Abort, "abort"),
     (Kind::Census, "census"),
     (Kind::DataPa, "dpa"),
@@ -54,6 +55,7 @@ pub const KINDS: [(Kind, &str); 21] = [
     (Kind::TranslateFetch, "tr fetch"),
     (Kind::TranslateRead, "tr read"),
     (Kind::TranslateWrite, "tr write"),
+    (Kind::Windows, "win"),
     (Kind::General, "x"),
 ];
 
@@ -87,6 +89,7 @@ impl Kind {
             Call::General(..) => Kind::General,
             Call::Abort(_) => Kind::Abort,
             Call::Census(..) => Kind::Census,
+            Call::Windows => Kind::Windows,
         }
     }
 
@@ -100,6 +103,15 @@ impl Kind {
         }
     }
 }
+
+/// Where the numbers of checks begin in a kind's row, behind the answers that have a name.
+pub const NUMBERS: usize = ANSWERS.len();
+
+/// Where the statuses begin.
+pub const STATUSES: usize = NUMBERS + 16;
+
+/// Where the levels of leaves begin.
+pub const LEAVES: usize = STATUSES + 64;
 
 const ANSWERS: [&str; 8] = [
     "ok",
@@ -145,12 +157,14 @@ pub fn class_name(class: usize) -> &'static str {
     CLASSES.get(class).copied().unwrap_or("?")
 }
 
-// What a status is called: PAR's of an AT, a fault's of a translation or a walk, an abort's of an access.
+// What a status is called: PAR's of an AT, a fault's of a translation or a walk, an abort's of an access, a page's of a
+// list of windows.
 fn status_word(kind: Kind) -> &'static str {
     match kind {
         Kind::Fetch => "insn",
         Kind::Load | Kind::Store | Kind::ZeroBlock => "data",
         Kind::At => "PAR",
+        Kind::Windows => "page",
         _ => "fault",
     }
 }
@@ -169,9 +183,12 @@ impl fmt::Display for Column {
             return f.write_str(name);
         }
         match place {
-            0..16 => write!(f, "no {}", place % 8),
-            16..80 => write!(f, "{} {:02x}", status_word(self.kind), place - 16),
-            _ => write!(f, "leaf {}", place % 4),
+            0..STATUSES => write!(f, "no {}", place.wrapping_sub(NUMBERS)),
+            STATUSES..LEAVES => {
+                let status = place - STATUSES;
+                write!(f, "{} {status:02x}", status_word(self.kind))
+            }
+            _ => write!(f, "leaf {}", place - LEAVES),
         }
     }
 }

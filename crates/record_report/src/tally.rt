@@ -1,5 +1,5 @@
 //! How often each operation gave each answer, and how often cases were of each class of difference.
-use crate::tables::{KINDS, Kind};
+use crate::tables::{KINDS, Kind, LEAVES, NUMBERS, STATUSES};
 use cpu::call::Reply;
 use exception::kind::{Exception, Stop};
 use fault::Fault;
@@ -7,7 +7,7 @@ use trace_text::answer::Answer;
 use trace_text::line::Operation;
 
 /// Places of a kind's row.
-pub const ANSWERS: usize = 84;
+pub const ANSWERS: usize = LEAVES + 4;
 
 /// Classes of difference.
 pub const CLASSES: usize = 32;
@@ -19,26 +19,26 @@ pub struct Tally {
 }
 
 fn status_place(fault: Fault) -> usize {
-    16 + usize::from(fault.fsc % 64)
+    STATUSES + usize::from(fault.fsc % 64)
 }
 
 // An AT that was carried out answers as PAR does.
 fn done_place(kind: Kind, par: u64) -> usize {
     match kind {
-        Kind::At if par & 1 == 1 => 16 + (par >> 1 & 63) as usize,
+        Kind::At if par & 1 == 1 => STATUSES + (par >> 1 & 63) as usize,
         Kind::At => 6,
         _ => 0,
     }
 }
 
-// The place of an answer in its row: ok 0, val 1, none 2, pair 3, undefined 4, unimplemented 5, PAR ok 6, counts 7,
-// numbers from 8, statuses from 16, leaves by level from 80.
+// The place of an answer in its row: ok 0, val 1, none 2, pair 3, undefined 4, unimplemented 5, PAR ok 6, counts 7;
+// then the numbers of checks, statuses, and leaves by level.
 fn place_of(kind: Kind, answer: Answer, par: u64) -> usize {
     match answer {
         Answer::Reply(Reply::Done) => done_place(kind, par),
         Answer::Reply(Reply::Value(_)) => 1,
-        Answer::Reply(Reply::Faults) => 2,
-        Answer::Reply(Reply::Refused(number)) => 8 + usize::from(number % 8),
+        Answer::Reply(Reply::Faults) | Answer::Shared(None) => 2,
+        Answer::Reply(Reply::Refused(number)) => NUMBERS + usize::from(number % 16),
         Answer::Reply(Reply::Fault { fault, .. }) => status_place(fault),
         Answer::Reply(Reply::Stopped(Stop::Exception(e))) => match e {
             Exception::DataAbort(a) => status_place(a.fault),
@@ -46,9 +46,10 @@ fn place_of(kind: Kind, answer: Answer, par: u64) -> usize {
             _ => 4,
         },
         Answer::Reply(Reply::Stopped(Stop::Unimplemented)) => 5,
-        Answer::Pair(..) => 3,
+        Answer::Pair(..) | Answer::Shared(Some(_)) => 3,
         Answer::Counts { .. } => 7,
-        Answer::Leaf(leaf) => 80 + usize::from(leaf.level % 4),
+        Answer::Page(page) => status_place(page.fault),
+        Answer::Leaf(leaf) => LEAVES + usize::from(leaf.level % 4),
     }
 }
 

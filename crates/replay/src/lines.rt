@@ -12,6 +12,9 @@ use trace_text::words;
 // No record has a longer window, in bytes.
 const LONGEST_WINDOW: usize = 0x20_0000;
 
+// The code of a line with bytes of a list of windows.
+const BYTES: u64 = 64;
+
 // No record has more lines.
 const LINES: u64 = 100_000_000;
 
@@ -46,6 +49,21 @@ impl<W: Write> Replay<'_, W> {
         write!(self.out, "\n  {fault}")
     }
 
+    // Bytes of a list of windows: how many, and the words that hold them.
+    fn list(&mut self, op: &[u64; 8]) -> Result<(), Stop> {
+        let count = op[1];
+        if 48 < count {
+            return Err(Stop::Broken(Fault::NoSuchLine));
+        }
+        let words = op.iter().skip(2);
+        for byte in words.flat_map(|word| word.to_le_bytes()).take(count as usize) {
+            if !self.machine.add_byte(byte)? {
+                return Err(Stop::Broken(Fault::LongList));
+            }
+        }
+        Ok(())
+    }
+
     // The line that begins with this word. The words after an operation's are held against the core where it is whole.
     fn line(&mut self, words: &mut Words<'_>, first: u64) -> Result<(), Stop> {
         self.lines = self.lines.wrapping_add(1);
@@ -55,6 +73,9 @@ impl<W: Write> Replay<'_, W> {
         } else {
             brief(words, first)
         };
+        if op[0] == BYTES {
+            return self.list(&op);
+        }
         match words::line_of(&op) {
             Some(Line::Operation(operation)) => {
                 self.performed = self.machine.perform(operation);
@@ -67,7 +88,7 @@ impl<W: Write> Replay<'_, W> {
                 return Err(Stop::Broken(Fault::LargeWindow));
             }
             Some(Line::Setup(setup)) => self.machine.arrange(setup)?,
-            Some(Line::Load(_)) | None => self.case_line(&op)?,
+            Some(Line::Load(_) | Line::Bytes(_)) | None => self.case_line(&op)?,
         }
         Ok(())
     }

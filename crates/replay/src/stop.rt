@@ -16,6 +16,8 @@ pub enum Fault {
     NoSuchOperation,
     #[error("the window is too large")]
     LargeWindow,
+    #[error("the list of windows is too long")]
+    LongList,
     #[error("no operation was replayed")]
     NothingReplayed,
     #[error("the header has other numbers")]

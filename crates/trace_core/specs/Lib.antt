@@ -1,2 +1,3 @@
 -- What the contracts of `trace_core` cite.
 pub mod Told
+pub mod Shared

@@ -5,3 +5,4 @@ mod edits;
 mod leaves;
 pub mod machine;
 pub mod memory;
+mod shared;

@@ -1,6 +1,6 @@
 //! The core, its window of RAM, and what a trace's lines do to them.
 use crate::calls::Carried;
-use crate::{calls, edits, leaves, memory};
+use crate::{calls, edits, leaves, memory, shared};
 use core_calls::inspect;
 use cpu::Core;
 use cpu::call::{Call, Reply};
@@ -9,7 +9,8 @@ use digest::parts::Sum;
 use saved::{place, save};
 use std::alloc::{AllocError, Global};
 use trace_text::answer::Answer;
-use trace_text::line::{Operation, Setup};
+use trace_text::lex;
+use trace_text::line::{LONGEST_LIST, Operation, Setup};
 use word::ram;
 
 /// What an operation answered, and the descriptors that its walks read: 0 of one that does not report them.
@@ -45,6 +46,8 @@ pub struct Machine {
     pub ram: Vec<u8>,
     // its digest, which is dear, where it was taken since the bytes last changed
     digest: Option<u64>,
+    // the bytes of a list of windows that no operation has taken yet
+    list: Vec<u8>,
 }
 
 impl Machine {
@@ -56,6 +59,7 @@ impl Machine {
             base: 0,
             ram: Vec::new(alloc),
             digest: None,
+            list: Vec::new(alloc),
         }
     }
 
@@ -65,6 +69,7 @@ impl Machine {
         self.base = 0;
         self.ram.clear();
         self.digest = None;
+        self.list.clear();
     }
 
     /// A core has a byte for its level. A larger one is 255 there, and is refused like each above 3.
@@ -102,6 +107,33 @@ impl Machine {
         }
     }
 
+    // What the list of windows finds, which is empty from then on.
+    fn windows(&mut self) -> Answer {
+        let (ram, list) = (self.ram.as_slice(), self.list.as_slice());
+        let answer = shared::answer(&self.core, self.base, ram, list);
+        self.list.clear();
+        answer
+    }
+
+    /// One byte more of the list of windows; false where that has as many as a list may have.
+    pub fn add_byte(&mut self, byte: u8) -> Result<bool, AllocError> {
+        if LONGEST_LIST <= self.list.len() {
+            return Ok(false);
+        }
+        self.list.push(byte)?;
+        Ok(true)
+    }
+
+    /// The same for bytes by their digits, two for each.
+    pub fn add_digits(&mut self, digits: &[u8]) -> Result<bool, AllocError> {
+        for byte in digits.chunks(2) {
+            if !self.add_byte(lex::byte_of(byte))? {
+                return Ok(false);
+            }
+        }
+        Ok(true)
+    }
+
     /// Carries out an operation.
     pub fn perform(&mut self, operation: Operation) -> Performed {
         if operation.moves_ram() {
@@ -111,6 +143,7 @@ impl Machine {
             Operation::Call(Call::Census(first, pages)) => Performed::from(self.census(
                 first, pages,
             )),
+            Operation::Call(Call::Windows) => Performed::from(self.windows()),
             Operation::Call(call) => {
                 let ram = self.ram.as_mut_slice();
                 Performed::from(calls::carry_out(&mut self.core, self.base, ram, call))

@@ -164,7 +164,7 @@ impl Auditor {
             Line::Operation(operation) => {
                 machine.perform(operation);
             }
-            Line::Load(_) => {}
+            Line::Load(_) | Line::Bytes(_) => {}
         }
         self.keeping.drop_dead(&machine.core);
         if line.line.moves_tables() {

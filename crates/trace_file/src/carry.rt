@@ -83,7 +83,7 @@ fn perform(line: Line, machine: &mut Machine) -> Result<(), Trouble> {
         Line::Operation(operation) => {
             machine.perform(operation);
         }
-        Line::Load(_) => {}
+        Line::Load(_) | Line::Bytes(_) => {}
     }
     Ok(())
 }

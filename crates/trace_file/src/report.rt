@@ -41,6 +41,8 @@ pub struct Message<'a> {
     line: Option<u64>,
     #[serde(skip_serializing_if = Option::is_none)]
     column: Option<usize>,
+    #[serde(skip_serializing_if = Option::is_none)]
+    byte: Option<u64>,
     reason: String,
 }
 
@@ -50,6 +52,18 @@ impl<'a> Message<'a> {
             place,
             line: None,
             column: None,
+            byte: None,
+            reason,
+        }
+    }
+
+    /// At a byte of a file, from 0.
+    pub fn at_byte(path: &'a str, byte: u64, reason: String) -> Self {
+        Message {
+            place: Some(path),
+            line: None,
+            column: None,
+            byte: Some(byte),
             reason,
         }
     }
@@ -60,6 +74,7 @@ impl<'a> Message<'a> {
             place: Some(path),
             line: Some(line),
             column: Some(column),
+            byte: None,
             reason,
         }
     }
@@ -76,6 +91,9 @@ impl fmt::Display for Message<'_> {
         }
         if self.place.is_some() {
             write!(f, ": ")?;
+        }
+        if let Some(byte) = self.byte {
+            write!(f, "byte {byte}: ")?;
         }
         writeln!(f, "{}", self.reason)
     }

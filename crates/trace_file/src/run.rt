@@ -8,7 +8,7 @@ use std::rt::Files;
 use std::{fs, io};
 use trace_core::machine::Machine;
 use trace_text::expected::Expected;
-use trace_text::line::Line;
+use trace_text::line::{Digits, Line};
 use trace_text::reason::{Reason, Refusal};
 use trace_text::{expected, parse};
 
@@ -78,6 +78,17 @@ fn check<R: Files, B: BufRead>(rt: &R, reader: &mut B, bytes: &mut Vec<u8>) -> R
     Err(Trouble::ManyLines)
 }
 
+// A line's bytes of a list of windows go behind those that are there.
+fn list(number: u64, line: &[u8], digits: Digits, machine: &mut Machine) -> Result<(), Trouble> {
+    let Digits { start, end } = digits;
+    if machine.add_digits(line.get(start..end).unwrap_or(b""))? {
+        return Ok(());
+    }
+    let column = start.wrapping_add(1);
+    let reason = Reason::LongList;
+    Err(Trouble::Line(number, Refusal { column, reason }))
+}
+
 // All lines of a reader that stands at a trace's start are carried out, until the carrier has seen enough.
 fn carry_out<R: Files, B: BufRead, C: Carrier>(
     rt: &R,
@@ -94,8 +105,10 @@ fn carry_out<R: Files, B: BufRead, C: Carrier>(
         let Some(line) = parsed(number, bytes.as_slice())? else {
             continue;
         };
-        if let Line::Load(from) = line.line {
-            load::line(rt, number, bytes.as_slice(), from, machine)?;
+        match line.line {
+            Line::Load(from) => load::line(rt, number, bytes.as_slice(), from, machine)?,
+            Line::Bytes(digits) => list(number, bytes.as_slice(), digits, machine)?,
+            _ => {}
         }
         if !carrier.line(line, machine)? {
             return Ok(());

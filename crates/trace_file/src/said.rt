@@ -6,6 +6,7 @@ use manual_words::status::Status;
 use serde::{Serialize, Serializer};
 use trace_text::answer;
 use trace_text::answer::Answer;
+use windows::Pair;
 
 #[derive(Clone, Copy, Serialize)]
 #[serde(tag = "kind", rename_all = "snake_case")]
@@ -52,6 +53,17 @@ enum Said {
     Counts {
         not_zero: Count,
         digest: Hex,
+    },
+    SharedPage {
+        first: Count,
+        second: Count,
+    },
+    NoSharedPage,
+    PageFault {
+        window: Count,
+        page: Count,
+        status: Hex,
+        fault: Shown<Status>,
     },
 }
 
@@ -119,6 +131,20 @@ fn of_answer(answer: Answer) -> Said {
             not_zero: Count(count),
             digest: Hex(digest),
         },
+        Answer::Shared(Some(Pair { first, second })) => Said::SharedPage {
+            first: Count(first),
+            second: Count(second),
+        },
+        Answer::Shared(None) => Said::NoSharedPage,
+        Answer::Page(page) => {
+            let (status, fault) = words(page.fault.fsc);
+            Said::PageFault {
+                window: Count(page.window),
+                page: Count(page.page),
+                status,
+                fault,
+            }
+        }
     }
 }
 

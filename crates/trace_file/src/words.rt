@@ -117,12 +117,16 @@ impl fmt::Display for Held {
     }
 }
 
-// The status of a reply that is a fault.
-fn status(reply: Reply) -> Option<u8> {
-    match reply {
-        Reply::Fault { fault, .. } => Some(fault.fsc),
-        Reply::Stopped(Stop::Exception(Exception::DataAbort(abort))) => Some(abort.fault.fsc),
-        Reply::Stopped(Stop::Exception(Exception::InsnAbort(abort))) => Some(abort.fault.fsc),
+// The status of an answer that is a fault.
+fn status(answer: Answer) -> Option<u8> {
+    match answer {
+        Answer::Page(page) => Some(page.fault.fsc),
+        Answer::Reply(Reply::Fault { fault, .. }) => Some(fault.fsc),
+        Answer::Reply(Reply::Stopped(Stop::Exception(e))) => match e {
+            Exception::DataAbort(abort) => Some(abort.fault.fsc),
+            Exception::InsnAbort(abort) => Some(abort.fault.fsc),
+            _ => None,
+        },
         _ => None,
     }
 }
@@ -163,10 +167,13 @@ impl Words {
             taken: None,
             registers: [None; 3],
         };
-        let (Operation::Call(call), Answer::Reply(reply)) = (operation, answer) else {
+        let Operation::Call(call) = operation else {
             return words;
         };
-        words.fault = status(reply).map(|status| Shown::new(Status(status)));
+        words.fault = status(answer).map(|status| Shown::new(Status(status)));
+        let Answer::Reply(reply) = answer else {
+            return words;
+        };
         if let Call::System(encoding) = call {
             words.name = Some(Shown::new(Name(*encoding)));
         }

@@ -4,8 +4,10 @@ use cpu::call::Reply;
 use exception::kind::{Exception, Stop};
 use std::fmt;
 use walk::level::Leaf;
+use windows::Pair;
+use windows::pages::PageFault;
 
-/// The reply of a call, or what a leaf of a trace or a census finds.
+/// The reply of a call, or what a leaf of a trace, a census or a list of windows finds.
 #[derive(Clone, Copy)]
 pub enum Answer {
     Reply(Reply),
@@ -14,6 +16,10 @@ pub enum Answer {
     Pair(u64, u64),
     /// How many of a census's counts are not 0, and the digest of all.
     Counts { count: u64, digest: u64 },
+    /// The first two windows of a list that share a physical page, if two do.
+    Shared(Option<Pair>),
+    /// The first page of a list of windows that faults.
+    Page(PageFault),
 }
 
 /// Attribute index, shareability, NS and global: the first three are the descriptor's own bits.
@@ -44,6 +50,9 @@ impl Answer {
             }
             Answer::Pair(a, b) => [4, a, b, 0],
             Answer::Counts { count, digest } => [11, count, digest, 0],
+            Answer::Shared(Some(pair)) => [4, pair.first, pair.second, 0],
+            Answer::Shared(None) => reply::words(Reply::Faults),
+            Answer::Page(page) => [12, page.window, page.page, u64::from(page.fault.fsc)],
         }
     }
 }
@@ -85,6 +94,15 @@ impl fmt::Display for Answer {
             }
             Answer::Pair(a, b) => write!(f, "pair {a:x} {b:x}"),
             Answer::Counts { count, digest } => write!(f, "counts {count:x}:{digest:016x}"),
+            Answer::Shared(Some(Pair { first, second })) => write!(f, "pair {first:x} {second:x}"),
+            Answer::Shared(None) => f.write_str("none"),
+            Answer::Page(PageFault {
+                window,
+                page,
+                fault,
+            }) => {
+                write!(f, "page {window:x} {page:x} {:02x}", fault.fsc)
+            }
         }
     }
 }

@@ -82,3 +82,8 @@ pub fn value_of(word: &[u8]) -> Result<u64, Reason> {
 pub fn signed_value_of(word: &[u8]) -> Result<u64, Reason> {
     value_of(word.strip_prefix(b"+").unwrap_or(word))
 }
+
+/// The byte that two digits write; 0 where they are none.
+pub fn byte_of(digits: &[u8]) -> u8 {
+    value_of(digits).map_or(0, |byte| (byte % 256) as u8)
+}

@@ -9,6 +9,7 @@ pub enum Line {
     Operation(Operation),
     Setup(Setup),
     Load(Load),
+    Bytes(Digits),
 }
 
 /// A file's bytes go into the window.
@@ -19,6 +20,13 @@ pub struct Load {
     pub end: usize,
     /// the physical address of the first byte
     pub addr: u64,
+}
+
+/// Bytes of a list of windows, in a line: where their digits begin and end, two for each byte.
+#[derive(Clone, Copy)]
+pub struct Digits {
+    pub start: usize,
+    pub end: usize,
 }
 
 /// What has an answer, and a line of output.
@@ -110,6 +118,12 @@ pub enum Part {
 /// The longest window, in bytes: it is memory of the tool's own.
 pub const LONGEST_WINDOW: usize = 0x2000_0000;
 
+/// So many bytes of a list stand in a line at the most.
+pub const LONGEST_BYTES: usize = 0x400;
+
+/// The longest list of windows, in bytes: a right one has less than a hundredth of it.
+pub const LONGEST_LIST: usize = 0x1_0000;
+
 /// Whether a system operation is DC ZVA.
 pub fn zeroes_block(at: &Encoding) -> bool {
     at.op1 == 3 && at.crn == 7 && at.crm == 4 && at.op2 == 1
@@ -149,6 +163,7 @@ impl Line {
             Line::Operation(Operation::Call(Call::Register(_, _))) | Line::Load(_) => true,
             Line::Operation(operation) => operation.moves_ram(),
             Line::Setup(_) => true,
+            Line::Bytes(_) => false,
         }
     }
 }

@@ -7,7 +7,7 @@ use tlb::access::Kind;
 
 // What a line may begin with.
 const LINES: &str =
-    "fresh window zero load poke tr dpa fpa ld st if sys at dc ic tlbi reg level mark x abort census \
+    "fresh window zero load bytes poke tr dpa fpa ld st if sys at dc ic tlbi reg level mark x abort census win \
     l-asid l-on l-untag l-walk l-bits l-perm l-bank l-vec l-syn \
     p-level p-pc p-spsel p-gen p-cnt p-bc w-word w-hint w-entry w-fetch";
 

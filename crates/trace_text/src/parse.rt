@@ -1,7 +1,8 @@
 //! What a line of a trace means: a line, nothing, or the place and the reason of a refusal.
 use crate::argument::{Argument, General, Key, Write};
 use crate::lex::{Word, Words};
-use crate::line::{LONGEST_WINDOW, Leaf, Line, Load, Operation, Part, Poke, Setup};
+use crate::line::{LONGEST_BYTES, LONGEST_WINDOW};
+use crate::line::{Digits, Leaf, Line, Load, Operation, Part, Poke, Setup};
 use crate::names::ExceptionName;
 use crate::reason::{Reason, Refusal};
 use crate::{lex, names};
@@ -100,6 +101,7 @@ impl<'a> Reader<'a> {
             b"x" => Call::General(self.next::<General>()?.0, self.next()?),
             b"abort" => Call::Abort(self.exception()?),
             b"census" => Call::Census(self.next()?, self.next()?),
+            b"win" => Call::Windows,
             _ => match Group::named(name.text) {
                 Some(group) => self.maintenance(group)?,
                 None => return Err(name.refused(names::no_such_line(name.text))),
@@ -191,6 +193,30 @@ impl<'a> Reader<'a> {
         })
     }
 
+    // The digits of a list's bytes.
+    fn digits(&mut self) -> Result<Digits, Refusal> {
+        let word = self.word()?;
+        let len = word.text.len();
+        if let Some(k) = word.text.iter().position(|b| !b.is_ascii_hexdigit()) {
+            let column = word.column.wrapping_add(k);
+            return Err(Refusal {
+                column,
+                reason: Reason::NotDigit,
+            });
+        }
+        if len % 2 != 0 {
+            return Err(word.refused(Reason::OddDigits));
+        }
+        if LONGEST_BYTES < len / 2 {
+            return Err(word.refused(Reason::ManyBytes));
+        }
+        let start = word.column.wrapping_sub(1);
+        Ok(Digits {
+            start,
+            end: start.wrapping_add(len),
+        })
+    }
+
     // The line that begins with this word.
     fn line(&mut self, name: Word<'_>) -> Result<Line, Refusal> {
         Ok(match name.text {
@@ -201,6 +227,7 @@ impl<'a> Reader<'a> {
             }),
             b"zero" => Line::Setup(Setup::Zero),
             b"load" => Line::Load(self.load()?),
+            b"bytes" => Line::Bytes(self.digits()?),
             b"poke" => Line::Setup(Setup::Write {
                 addr: self.next()?,
                 value: self.next()?,

@@ -43,6 +43,14 @@ pub enum Reason {
     LongLine,
     #[error("a window of more than 20000000 bytes (512 MiB)")]
     LongWindow,
+    #[error("an odd number of digits: a byte has two")]
+    OddDigits,
+    #[error("not a hexadecimal digit")]
+    NotDigit,
+    #[error("more than 400 bytes (1024) in one line")]
+    ManyBytes,
+    #[error("a list of more than 10000 bytes (64 KiB)")]
+    LongList,
 }
 
 /// The reason, and the column of the word that is at fault, or of the line's end, from 1.

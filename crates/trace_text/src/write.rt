@@ -47,6 +47,7 @@ fn call<W: fmt::Write>(f: &mut fmt::Formatter<W>, call: Call) -> fmt::Result {
             exception(f, e)
         }
         Call::Census(first, pages) => line(f, "census", &[first, pages]),
+        Call::Windows => f.write_str("win"),
     }
 }
 
@@ -127,6 +128,7 @@ impl fmt::Display for Line {
             Line::Operation(operation) => write!(f, "{operation}"),
             Line::Setup(setup) => write!(f, "{setup}"),
             Line::Load(Load { addr, .. }) => line(f, "load at", &[addr]),
+            Line::Bytes(_) => f.write_str("bytes"),
         }
     }
 }
