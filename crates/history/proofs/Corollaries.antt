@@ -1,9 +1,9 @@
 -- What follows from faithfulness: the answers of one translation, of a step, of a whole list; and pages that need no
 -- premise.
-use Rattle.std.specs.Prelude.{if◌then◌else◌, ◌≡◌, Bool, ℕ, ◌≤◌, Ok, Err}
+use Rattle.std.proofs.Common.{arith, ap, ap₂, ◌∙◌, true≢false}
+use Rattle.std.specs.Prelude.{◌≡◌, ℕ, ◌≤◌, Ok, Err}
 use Rattle.std.proofs.Math.Path.{refl, sym}
-use Rattle.std.proofs.Common.{ap, ap₂, ◌∙◌, true≢false}
-use Rattle.std.proofs.Math.Bool.{true, false}
+use Rattle.std.proofs.Math.Bool.{false}
 use mathlib.Core.List.{List, [], ◌∷◌, ◌++◌, append-nil, append_assoc}
 use Rattle.walk.specs.declared.{level.Leaf.Leaf}
 use Rattle.sysreg.specs.declared.regs.Regime.{Regime}
@@ -12,10 +12,9 @@ use Rattle.tlb.specs.Tlb.{fresh}
 use Rattle.tlb.specs.Asks.{Ask, kind_of, address_of, Given, onward}
 use Rattle.tlb.specs.declared.Tlb.{Tlb}
 use Rattle.tlb.specs.Answers.{Answer}
-use Rattle.tlb.specs.declared.Inval.TheVariants.{All}
 use Rattle.history.proofs.Lists.{each_left, each_right, each-head, plain-append, tlb-append}
 use Rattle.history.specs.World.{World, Laws, covers, Plain, uncached}
-use Rattle.history.specs.History.{Effect, nothing, carries, writes, sets, Step, Event, steps, receives, after, plain_run, drops, drops_run, answer_of}
+use Rattle.history.specs.History.{Effect, nothing, Step, Event, steps, receives, after, plain_run, drops, drops_run, answer_of}
 use Rattle.history.specs.History.{tlb_ask, answers, tlb_run, Settled, SettledFor, FaithfulAnswer}
 use Rattle.history.proofs.Theorem.{every_history_faithful}
 use Rattle.history.specs.Invisible.{plain_answers, answers_run, plain_answers_run, Tidy, Invisible}
@@ -27,14 +26,7 @@ module _ (w : World) (laws : Laws w) where
     -- a walk that no flush covers means that the shape stayed, and so whether stage 1 is on
     effect-on : (e : Effect w) (c : Plain w) → Each (λ v. covers v p ℓ a ≡ false) (drops w e c) → w.on (after w e c).regs r ≡ w.on c.regs r
     unfolding covers
-    effect-on nothing c us = refl
-    effect-on (carries v shared) c us = refl
-    effect-on (sets privilege low) c us = refl
-    effect-on (writes R) c us = go (w.same-shape c.regs R) refl us
-      where
-        go : (b : Bool) → w.same-shape c.regs R ≡ b → Each (λ v. covers v p ℓ a ≡ false) (if b then [] else All ∷ []) → w.on R r ≡ w.on c.regs r
-        go true x vs = sym (laws.shape_on c.regs R x r)
-        go false x (more y ys) = absurd (true≢false y)
+    effect-on e c h1 = grind arith
 
     kept_on : (l : List (Event w)) (c : Plain w) → Each (λ v. covers v p ℓ a ≡ false) (drops_run w c l)
         → w.on (plain_run w c l).regs r ≡ w.on c.regs r

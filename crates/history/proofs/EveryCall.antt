@@ -1,10 +1,9 @@
 -- Faithfulness for lists of calls, proved from a bridge.
+use Rattle.std.proofs.Common.{arith, sym, ap, ap₂, subst, ◌∙◌}
 use Rattle.std.specs.Prelude.{◌≡◌, refl, List, [], ◌∷◌, ◌++◌, ◌≤◌}
-use Rattle.std.proofs.Common.{sym, ap, ap₂, subst, ◌∙◌}
 use Rattle.tlb.specs.Lists.{Each}
 use Rattle.tlb.specs.Tlb.{fresh}
 use Rattle.tlb.specs.Asks.{kind_of, address_of, Given}
-use Rattle.tlb.specs.declared.Tlb.{Tlb}
 use Rattle.history.specs.World.{World, Laws, Plain, regime_now, page_now, uncached}
 use Rattle.history.proofs.Lists.{plain-append, tlb-append}
 use Rattle.history.specs.History.{Step, Event, plain_run, answers, tlb_run, Settled, FaithfulAnswer}
@@ -35,16 +34,11 @@ module _ (w : World) (M : Machine w) (B : Bridge w M) where
 
   step-plain : (c : M.Core) (x : Fed w M) → ShownIn w M c x
       → plain_of w M (M.step c x.lent.ram x.lent.call) ≡ plain_run w (plain_of w M c) (events_fed w M (M.bare c) x)
-  step-plain c x s =
-      ap M.plain (B.bare-is c x.lent.ram x.lent.call)
-      ∙ B.plain-is c x.lent.ram x.lent.call
-      ∙ ap (plain_run w (plain_of w M c)) (sym (fed-events c x s))
+  step-plain c x s = grind arith
 
   step-tlb : (c : M.Core) (x : Fed w M) → ShownIn w M c x
       → M.tlb (M.step c x.lent.ram x.lent.call) ≡ tlb_run w (plain_of w M c) (events_fed w M (M.bare c) x) (M.tlb c)
-  step-tlb c x s =
-      B.tlb-is c x.lent.ram x.lent.call
-      ∙ ap (λ (es : List (Event w)). tlb_run w (plain_of w M c) es (M.tlb c)) (sym (fed-events c x s))
+  step-tlb c x s = grind arith
 
   -- the steps after the first call
   abbrev rest : M.Core → Fed w M → List (Fed w M) → List (Event w)
@@ -78,10 +72,7 @@ module _ (w : World) (M : Machine w) (B : Bridge w M) where
   -- what translations read after a list and the steps before in a call
   pub now-plain : (c : M.Core) (l : List (Fed w M)) → Shown w M c l → (before : List (Event w))
       → plain_after w M (M.bare c) l before ≡ plain_run w (plain_of w M c) (events_run w M (M.bare c) l ++ before)
-  now-plain c l s before =
-      ap (λ (b : M.Bare). plain_run w (M.plain b) before) (sym (run-bare c (lent_of w M l)))
-      ∙ ap (λ (q : Plain w). plain_run w q before) (run-plain c l s)
-      ∙ sym (plain-append w (plain_of w M c) (events_run w M (M.bare c) l) before)
+  now-plain c l s before = grind (arith, run-bare, run-plain, plain-append)
 
   -- A fresh core: a new cache, the ASID 0, a level of 3 at most.
   module _ (laws : Laws w) (c₀ : M.Core) (new : M.tlb c₀ ≡ fresh) (zero-asid : w.asid (plain_of w M c₀).regs ≡ 0)
@@ -100,22 +91,7 @@ module _ (w : World) (M : Machine w) (B : Bridge w M) where
         → Each (Q (events_run w M (M.bare c₀) list ++ before) m)
         (answers w (plain_after w M (M.bare c₀) list before) m s.asks
         (tlb_run w (plain_after w M (M.bare c₀) list []) before (M.tlb (run w M c₀ (lent_of w M list)))))
-    lifted Q h list shows before m s =
-        subst (λ (l : List Given). Each (Q (past ++ before) m) l)
-        (ap₂ (λ (q : Plain w) (t : Tlb). answers w q m s.asks t) (sym (now-plain c₀ list shows before)) caches)
-        (h (past ++ before) m s)
-      where
-        past : List (Event w)
-        past = events_run w M (M.bare c₀) list
-
-        at_last : plain_after w M (M.bare c₀) list [] ≡ plain_run w (plain_of w M c₀) past
-        at_last = ap M.plain (sym (run-bare c₀ (lent_of w M list))) ∙ run-plain c₀ list shows
-
-        caches : tlb_run w (plain_of w M c₀) (past ++ before) fresh
-            ≡ tlb_run w (plain_after w M (M.bare c₀) list []) before (M.tlb (run w M c₀ (lent_of w M list)))
-        caches =
-            tlb-append w (plain_of w M c₀) past before fresh
-            ∙ ap₂ (λ (q : Plain w) (u : Tlb). tlb_run w q before u) (sym at_last) (sym (fresh-run list shows))
+    lifted Q h list shows before m s = grind (arith, now-plain, run-bare, run-plain, tlb-append, fresh-run)
 
     pub every_call_faithful : EveryCallFaithful w M c₀
     every_call_faithful list s x sx before m t later split =

@@ -1,15 +1,14 @@
 -- Two histories that leave a page to one ASID give one answer.
 use Rattle.std.specs.Prelude.{◌≡◌, ℕ, ◌+◌, ◌-◌, ◌≤◌, ◌<◌, length, get_or}
-use Rattle.std.proofs.Math.Path.{sym}
-use Rattle.std.proofs.Common.{ap, ◌∙◌, arith}
+use Rattle.std.proofs.Common.{arith}
 use mathlib.Core.List.{List, Memᴰ}
 use Rattle.word.specs.Ram.{word_at}
 use Rattle.walk.specs.Regime.{bank_of}
 use Rattle.walk.specs.Fetches.{fetches_of}
 use Rattle.walk.proofs.FetchLaws.{bytes-agree}
 use Rattle.tlb.specs.Tlb.{fresh}
-use Rattle.tlb.specs.Asks.{Ask, kind_of, address_of}
-use Rattle.history.specs.World.{World, Laws, Plain, regime_now, untag_now, uncached}
+use Rattle.tlb.specs.Asks.{Ask, address_of}
+use Rattle.history.specs.World.{World, Laws, Plain, regime_now, untag_now}
 use Rattle.history.specs.History.{Event, plain_run, tlb_run, answer_of}
 use Rattle.history.proofs.Corollaries.{one-settled}
 use Rattle.history.specs.Instance.{window_of, real, fresh_plain}
@@ -26,13 +25,7 @@ module _ (w : World) where
         ≡ w.walk (plain_run w c₀ one).regs n (regime_now w (plain_run w c₀ one)) (untag_now w (plain_run w c₀ one) (address_of a))
         → OwnFor w c₀ one m a → OwnFor w c₀ two n a
         → answer_of w (plain_run w c₀ one) m a (tlb_run w c₀ one fresh) ≡ answer_of w (plain_run w c₀ two) n a (tlb_run w c₀ two fresh)
-    neighbours same walks own₁ own₂ =
-        alone one m own₁ ∙ rw walks (ap (λ (c : Plain w). uncached w c n (kind_of a) (address_of a)) same) ∙ sym (alone two n own₂)
-      where
-        alone : (past : List (Event w)) (k : w.Ram) → OwnFor w c₀ past k a
-            → answer_of w (plain_run w c₀ past) k a (tlb_run w c₀ past fresh) ≡ uncached w (plain_run w c₀ past) k (kind_of a) (address_of a)
-        alone past k own =
-            one-settled w laws c₀ zero-asid low past k a (own-settled w c₀ past k _ _ own)
+    neighbours same walks own₁ own₂ = grind (arith, one-settled, own-settled)
 
 -- Of the real walk: RAMs of one window that agree on the bytes of each descriptor that the walk fetches.
 module _ (one two : List (Event real)) (base : ℕ) (xs ys : List ℕ) (a : Ask) where
@@ -49,6 +42,4 @@ module _ (one two : List (Event real)) (base : ℕ) (xs ys : List ℕ) (a : Ask)
       → OwnFor real fresh_plain one (window_of base xs) a → OwnFor real fresh_plain two (window_of base ys) a
       → answer_of real now (window_of base xs) a (tlb_run real fresh_plain one fresh)
       ≡ answer_of real (plain_run real fresh_plain two) (window_of base ys) a (tlb_run real fresh_plain two fresh)
-  real-neighbours same long bytes own₁ own₂ =
-      neighbours real real-laws fresh_plain fresh-asid (omega arith) one two (window_of base xs) (window_of base ys) a same
-      (bytes-agree _ _ _ base xs ys long bytes) own₁ own₂
+  real-neighbours same long bytes own₁ own₂ = grind (arith, neighbours, real-laws, fresh-asid, bytes-agree)

@@ -2,11 +2,9 @@
 use Rattle.std.specs.Prelude.{◌≡◌, refl, ℕ, ◌+◌, ◌*◌, ◌/◌, ◌%◌}
 use Rattle.std.proofs.Common.{arith}
 use Rattle.sysreg.specs.Regs.{fresh_control}
-use Rattle.sysreg.specs.Shape.{asid_base, asid_of}
-use Rattle.sysreg.specs.Shape.{SameShape}
+use Rattle.sysreg.specs.Shape.{asid_base, asid_of, SameShape}
 use Rattle.sysreg.proofs.ShapeLaws.{shape-agrees}
 use Rattle.sysreg.specs.declared.regs.Control.{Control}
-use Rattle.sysreg.specs.declared.regs.Regime.TheVariants.{El1, El2, El3}
 use Rattle.walk.specs.Regime.{bank_of, stage1_on}
 use Rattle.walk.proofs.TagLaws.{untagged-page, untagged-offset}
 use Rattle.walk.proofs.WalkBounds.{leaf-bounds}
@@ -17,9 +15,7 @@ use Rattle.history.specs.World.{Laws}
 use Rattle.history.specs.Instance.{memory_of, real}
 
 shape_on : (R S : Control) → SameShape R S → (r : Regime) → stage1_on (bank_of R r) r ≡ stage1_on (bank_of S r) r
-shape_on R S h El1 = rw (h.sctlr El1, h.scr, h.hcr)
-shape_on R S h El2 = rw (h.sctlr El2)
-shape_on R S h El3 = rw (h.sctlr El3)
+shape_on R S h1 r = grind arith
 
 same-page : (x v : ℕ) → x / 4096 ≡ (x / 4096 * 4096 + v % 4096) / 4096
 same-page x v = omega arith

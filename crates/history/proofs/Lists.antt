@@ -1,12 +1,10 @@
 -- Lists of events: what holds of each element of two lists joined, where a run over both ends, and its level.
+use Rattle.std.proofs.Common.{arith, append_assoc}
 use Rattle.std.specs.Prelude.{◌≡◌, refl, List, [], ◌∷◌, ◌++◌, ◌≤◌}
-use Rattle.std.proofs.Common.{sym, ap, ◌∙◌, append_assoc}
 use Rattle.tlb.specs.Lists.{Each, done, more}
-use Rattle.tlb.specs.Asks.{Given}
 use Rattle.tlb.specs.declared.Tlb.{Tlb}
 use Rattle.history.specs.World.{World, Plain}
-use Rattle.history.specs.History.{Effect, nothing, carries, writes, sets, Step, Event, steps, receives, after, after_event, plain_run, answers, tlb_event}
-use Rattle.history.specs.History.{tlb_run}
+use Rattle.history.specs.History.{Step, Event, steps, receives, after_event, plain_run, answers, tlb_event, tlb_run}
 use Rattle.history.specs.Invisible.{answers_run}
 
 module _ {A : Type 0} where
@@ -26,16 +24,8 @@ module _ {A : Type 0} where
   each-head (more p ps) = p
 
 module _ (w : World) where
-  -- every level stays at 3 or below
-  effect-low : (e : Effect w) (c : Plain w) → c.privilege.level ≤ 3 → (after w e c).privilege.level ≤ 3
-  effect-low nothing c low = low
-  effect-low (carries v shared) c low = low
-  effect-low (writes R) c low = low
-  effect-low (sets privilege small) c low = small
-
   pub event-low : (x : Event w) (c : Plain w) → c.privilege.level ≤ 3 → (after_event w x c).privilege.level ≤ 3
-  event-low (steps m s) c low = effect-low s.effect c low
-  event-low (receives v) c low = low
+  event-low x c h1 = grind arith
 
   pub run-low : (past : List (Event w)) (c : Plain w) → c.privilege.level ≤ 3 → (plain_run w c past).privilege.level ≤ 3
   run-low [] c low = low
@@ -57,7 +47,5 @@ module _ (w : World) where
       ++ answers_run w (after_event w (steps m s) (plain_run w c before)) later (tlb_event w (steps m s) (plain_run w c before) (tlb_run w c before t)))
   answers-split c [] m s later t = refl
   answers-split c (steps n u ∷ b) m s later t =
-      ap (λ (l : List Given). answers w c n u.asks t ++ l)
-      (answers-split (after_event w (steps n u) c) b m s later (tlb_event w (steps n u) c t))
-      ∙ sym (append_assoc (answers w c n u.asks t) _ _)
+      grind (arith, (answers-split (after_event w (steps n u) c) b m s later (tlb_event w (steps n u) c t)), append_assoc)
   answers-split c (receives v ∷ b) m s later t = answers-split c b m s later (tlb_event w (receives v) c t)

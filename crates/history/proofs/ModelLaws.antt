@@ -1,22 +1,19 @@
 -- Over every history the cache of History.antt does to the plain model what the model's own functions do.
-use Rattle.std.specs.Prelude.{if◌then◌else◌, ◌≡◌, Bool, List, [], ◌∷◌, ◌++◌, ℕ, ◌≤◌, ◌==◌, Ok, Err}
-use Rattle.std.proofs.Math.Path.{refl, ap, subst}
-use Rattle.std.proofs.Common.{ap₂, ◌∙◌}
-use Rattle.std.proofs.Math.Bool.{true, false}
-use Rattle.tlb.specs.Tlb.{fresh, flush_of, retag_of, invalidate_of}
+use Rattle.std.proofs.Common.{arith, rules, ap₂, ◌∙◌}
+use Rattle.std.specs.Prelude.{◌≡◌, List, [], ◌∷◌, ◌++◌, ℕ, ◌≤◌}
+use Rattle.std.proofs.Math.Path.{refl, ap}
+use Rattle.tlb.specs.Tlb.{fresh}
 use Rattle.tlb.specs.Maintenance.{invalidated_of, reshaped_of, retagged_of}
-use Rattle.tlb.specs.Model.{Model, empty_model, invalidate, retag, broadcast}
+use Rattle.tlb.specs.Model.{Model, empty_model}
 use Rattle.tlb.specs.Live.{live, WellFormed, LeafLevel, Follows}
 use Rattle.tlb.proofs.Refines.{fresh-live, fresh-sound, flush-live, flush-sound, invalidate-live, invalidate-sound, retag-live, retag-sound, broadcast-live}
 use Rattle.tlb.proofs.Refines.{broadcast-sound}
 use Rattle.tlb.proofs.Translations.{translation-follows, fetch-follows}
-use Rattle.tlb.specs.Asks.{Ask, translates, fetches, Given, onward}
+use Rattle.tlb.specs.Asks.{Ask, translates, fetches, Given}
 use Rattle.tlb.specs.declared.{access.Kind.Kind, Tlb.Tlb}
-use Rattle.tlb.specs.Answers.{Answer}
 use Rattle.tlb.specs.declared.access.Kind.TheVariants.{Fetch}
-use Rattle.tlb.specs.declared.Inval.TheVariants.{All}
 use Rattle.history.specs.World.{World, Laws, Plain, regime_now, untag_now, access_of}
-use Rattle.history.specs.History.{Effect, nothing, carries, writes, sets, Event, steps, receives, after, after_event, plain_run, answer_of, tlb_ask, answers}
+use Rattle.history.specs.History.{Effect, Event, steps, receives, after, after_event, plain_run, answer_of, tlb_ask, answers}
 use Rattle.history.specs.History.{tlb_asks, tlb_after, tlb_event, tlb_run}
 use Rattle.history.specs.Invisible.{answers_run}
 use Rattle.history.proofs.Lists.{event-low, run-low}
@@ -38,35 +35,11 @@ module _ (w : World) (laws : Laws w) where
     module _ (a : Ask) (l : List Ask) (t : Tlb) (f : Follows (record { answer = answer_of w c m a t; after = tlb_ask w c m a t }) (model_ask w c m a (live t))) where
       more-stands : StandsFor (tlb_asks w c m l (tlb_ask w c m a t)) (model_asks w c m l (live (tlb_ask w c m a t)))
           → StandsFor (tlb_asks w c m (a ∷ l) t) (model_asks w c m (a ∷ l) (live t))
-      more-stands rest =
-          record {
-            well = well (answer_of w c m a t);
-            is =
-                ap (λ (x : Answer). live (onward x (tlb_asks w c m l (tlb_ask w c m a t)) (tlb_ask w c m a t))) f.answer
-                ∙ go (model_ask w c m a (live t)).answer;
-          }
-        where
-          well : (x : Answer) → WellFormed (onward x (tlb_asks w c m l (tlb_ask w c m a t)) (tlb_ask w c m a t))
-          well (Ok pa) = rest.well
-          well (Err fault) = f.well
-
-          go : (x : Answer)
-              → live (onward x (tlb_asks w c m l (tlb_ask w c m a t)) (tlb_ask w c m a t))
-              ≡ onward x (model_asks w c m l (model_ask w c m a (live t)).after) (model_ask w c m a (live t)).after
-          go (Ok pa) = rest.is ∙ ap (model_asks w c m l) f.after
-          go (Err fault) = f.after
+      more-stands rest = search rules
 
       more-answers : answers w c m l (tlb_ask w c m a t) ≡ model_answers w c m l (live (tlb_ask w c m a t))
           → answers w c m (a ∷ l) t ≡ model_answers w c m (a ∷ l) (live t)
-      more-answers rest =
-          ap₂ {B = List Given} {C = List Given} (λ (x : Answer) (k : List Given). record { ask = a; answer = x } ∷ k) f.answer
-          (ap (λ (x : Answer). onward x (answers w c m l (tlb_ask w c m a t)) []) f.answer ∙ go (model_ask w c m a (live t)).answer)
-        where
-          go : (x : Answer)
-              → onward {A = List Given} x (answers w c m l (tlb_ask w c m a t)) []
-              ≡ onward x (model_answers w c m l (model_ask w c m a (live t)).after) []
-          go (Ok pa) = rest ∙ ap (model_answers w c m l) f.after
-          go (Err fault) = refl
+      more-answers rest = grind arith
 
     asks-stand : (l : List Ask) (t : Tlb) → WellFormed t → StandsFor (tlb_asks w c m l t) (model_asks w c m l (live t))
     asks-stand [] t s = record { well = s; is = refl }
@@ -83,48 +56,16 @@ module _ (w : World) (laws : Laws w) where
 
   -- EFFECTS
 
-  flushed-stands : (R S : w.Regs) (t : Tlb) → WellFormed t → StandsFor (reshaped_of t (w.same-shape R S)) (model_flushed w R S (live t))
-  unfolding reshaped_of model_flushed
-  flushed-stands R S t s = go (w.same-shape R S)
-    where
-      go : (b : Bool) → StandsFor (if b then t else flush_of t) (if b then live t else invalidate All (live t))
-      go true = record { well = s; is = refl }
-      go false = record { well = flush-sound t s; is = flush-live t s }
-
-  retagged-stands : (a : ℕ) {t : Tlb} {u : Model} → StandsFor t u → StandsFor (retagged_of t a) (model_retagged w a u)
-  unfolding retagged_of model_retagged
-  retagged-stands a {t} r =
-      subst (λ (u : Model). StandsFor (if t.asid == a then t else retag_of t a) (if u.asid == a then u else retag a u)) r.is
-      (go (t.asid == a))
-    where
-      go : (b : Bool) → StandsFor (if b then t else retag_of t a) (if b then live t else retag a (live t))
-      go true = record { well = r.well; is = refl }
-      go false = record { well = retag-sound t r.well a; is = retag-live t r.well a }
-
   effect-stands : (e : Effect w) (c : Plain w) (t : Tlb) → WellFormed t → StandsFor (tlb_after w e c t) (model_after w e c (live t))
-  unfolding invalidated_of
-  effect-stands nothing c t s = record { well = s; is = refl }
-  effect-stands (carries v false) c t s = record { well = invalidate-sound t s v; is = invalidate-live t s v }
-  effect-stands (carries v true) c t s =
-      record {
-        well = broadcast-sound (invalidate_of t v) v (invalidate-sound t s v);
-        is = broadcast-live (invalidate_of t v) v ∙ ap (broadcast v) (invalidate-live t s v);
-      }
-  effect-stands (writes R) c t s = retagged-stands (w.asid R) (flushed-stands c.regs R t s)
-  effect-stands (sets privilege low) c t s = record { well = s; is = refl }
+  unfolding invalidated_of retagged_of model_retagged reshaped_of model_flushed
+  effect-stands e c t h1 =
+      search (rules, invalidate-sound, invalidate-live, broadcast-sound, broadcast-live, retag-sound, retag-live, flush-sound, flush-live)
 
   -- EVENTS
 
   pub event-stands : (x : Event w) (c : Plain w) {t : Tlb} {u : Model} → c.privilege.level ≤ 3 → StandsFor t u
       → StandsFor (tlb_event w x c t) (model_event w x c u)
-  event-stands x c {t} low r = subst (λ (u : Model). StandsFor (tlb_event w x c t) (model_event w x c u)) r.is (go x)
-    where
-      go : (y : Event w) → StandsFor (tlb_event w y c t) (model_event w y c (live t))
-      go (steps m s) =
-          let l = asks-stand c m low s.asks t r.well in
-          subst (λ (u : Model). StandsFor (tlb_after w s.effect c (tlb_asks w c m s.asks t)) (model_after w s.effect c u)) l.is
-          (effect-stands s.effect c (tlb_asks w c m s.asks t) l.well)
-      go (receives v) = record { well = invalidate-sound t r.well v; is = invalidate-live t r.well v }
+  event-stands x c {t} low r = grind (arith, asks-stand, effect-stands, invalidate-sound, invalidate-live)
 
   -- HISTORIES
 
@@ -154,6 +95,4 @@ module _ (w : World) (laws : Laws w) where
 
     pub history-answers : (m : w.Ram) (l : List Ask)
         → answers w (plain_run w c₀ past) m l (tlb_run w c₀ past fresh) ≡ model_answers w (plain_run w c₀ past) m l (model_run w c₀ past empty_model)
-    history-answers m l =
-        answers-live (plain_run w c₀ past) m (run-low w past c₀ low) l (tlb_run w c₀ past fresh) (run-stands past c₀ low fresh-stands).well
-        ∙ ap (model_answers w (plain_run w c₀ past) m l) history-model
+    history-answers m l = grind (arith, answers-live, run-low, run-stands, fresh-stands, history-model)

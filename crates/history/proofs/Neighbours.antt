@@ -1,7 +1,7 @@
 -- A page that the history leaves to the ASID of now is settled.
-use Rattle.std.specs.Prelude.{if◌then◌else◌, ◌≡◌, refl, Bool, true, false, ◌⊎◌, ℕ, ◌==◌, Ok}
+use Rattle.std.proofs.Common.{arith, ◌∙◌, true≢false, inl, inr, eqb-true}
+use Rattle.std.specs.Prelude.{◌≡◌, refl, Bool, true, false, ◌⊎◌, ℕ, ◌==◌, Ok}
 use Rattle.std.proofs.Math.Path.{sym}
-use Rattle.std.proofs.Common.{◌∙◌, true≢false, inl, inr, eqb-true}
 use mathlib.Core.List.{List, [], ◌∷◌, ◌++◌}
 use Rattle.std.proofs.lemmas.Bool.{eqb-false}
 use Rattle.walk.specs.declared.{level.Leaf.Leaf}
@@ -18,12 +18,7 @@ module _ (w : World) where
   under : {P : Inval → Type 0} (a : ℕ) (c : Plain w) (l : List (Event w)) → Each P (drops_run w c l) → Each P (drops_under w a c l)
   under a c [] ps = done
   under {P} a c (x ∷ l) ps =
-      each_append (some (w.asid c.regs == a) (each_left (drops_event w x c) (drops_run w (after_event w x c) l) ps))
-      (under a (after_event w x c) l (each_right (drops_event w x c) (drops_run w (after_event w x c) l) ps))
-    where
-      some : (b : Bool) → Each P (drops_event w x c) → Each P (if b then drops_event w x c else [])
-      some true qs = qs
-      some false qs = done
+      grind (arith, (under a (after_event w x c) l (each_right (drops_event w x c) (drops_run w (after_event w x c) l) ps)), each_append, each_left, each_right)
 
   pub own-settled : (c₀ : Plain w) (past : List (Event w)) (m : w.Ram) (r : Regime) (p : ℕ) → Own w c₀ past m r p → Settled w c₀ past m r p
   own-settled c₀ past m r p own =

@@ -1,14 +1,14 @@
 -- After every history each answer comes from where Origin.antt says.
+use Rattle.std.proofs.Common.{rules, sym, ◌∙◌, inl, inr}
 use Rattle.std.specs.Prelude.{◌≡◌, refl, true, List, [], ◌∷◌, ◌⊎◌, ◌≤◌, Ok, Err}
-use Rattle.std.proofs.Common.{sym, subst, ◌∙◌, inl, inr}
 use Rattle.tlb.specs.Lists.{Each, done, more}
 use Rattle.tlb.specs.Tlb.{fresh}
-use Rattle.tlb.specs.Model.{Model, empty_model}
-use Rattle.tlb.specs.Asks.{Ask, kind_of, address_of, Given, onward}
+use Rattle.tlb.specs.Model.{Model}
+use Rattle.tlb.specs.Asks.{Ask, kind_of, address_of, onward}
 use Rattle.tlb.specs.Answers.{Answer}
 use Rattle.history.specs.World.{World, Laws, Plain, regime_now, page_now}
 use Rattle.history.specs.History.{Step, Event, plain_run, drops_run, answers, tlb_run}
-use Rattle.history.specs.ModelRun.{model_ask, model_answers, model_run}
+use Rattle.history.specs.ModelRun.{model_ask, model_answers}
 use Rattle.history.proofs.ModelLaws.{history-answers}
 use Rattle.history.proofs.Traced.{Moment, at, Traced, traced-at}
 use Rattle.history.proofs.Right.{Answered, itself, by, failed, Done}
@@ -57,6 +57,4 @@ module _ (w : World) (laws : Laws w) (c₀ : Plain w) (zero-asid : w.asid c₀.r
   -- After every history, whatever the RAM, each answer comes from there.
   pub origin : (past : List (Event w)) (m : w.Ram) (s : Step w)
       → Each (λ g. From w c₀ past m g.ask g.answer) (answers w (plain_run w c₀ past) m s.asks (tlb_run w c₀ past fresh))
-  origin past m s =
-      subst (λ (l : List Given). Each (λ g. From w c₀ past m g.ask g.answer) l) (sym (history-answers w laws c₀ low past m s.asks))
-      (all_from past m s.asks (model_run w c₀ past empty_model) (traced-at w m (history-traced w laws c₀ zero-asid low past)))
+  origin past m s = search (rules, history-answers, all_from, traced-at, history-traced)

@@ -1,7 +1,7 @@
 -- What a translation in a traced model answers, and that it leaves the model traced.
+use Rattle.std.proofs.Common.{rules, sym, ap, subst, ◌∙◌}
 use Rattle.std.proofs.Math.Path.{◌≡◌, refl}
-use Rattle.std.proofs.Common.{sym, ap, subst, ◌∙◌}
-use Rattle.std.specs.Prelude.{if◌then◌else◌, Bool, ◌&&◌, List, ◌∷◌, ◌⊎◌, ℕ, zero, suc, ◌+◌, ◌*◌, ◌/◌, ◌%◌, ◌^◌, ◌<◌, ◌==◌, Ok, Err}
+use Rattle.std.specs.Prelude.{if◌then◌else◌, Bool, ◌&&◌, List, ◌∷◌, ◌⊎◌, ℕ, ◌+◌, ◌*◌, ◌/◌, ◌%◌, ◌<◌, ◌==◌, Ok, Err}
 use Rattle.std.proofs.Math.Bool.{true, false}
 use Rattle.std.proofs.lemmas.Bool.{false≢true}
 use Rattle.std.proofs.Math.Logic.{inl, inr}
@@ -11,16 +11,13 @@ use Rattle.word.proofs.BitLaws.{both}
 use Rattle.fault.specs.First.{first}
 use Rattle.walk.specs.declared.{level.Leaf.Leaf}
 use Rattle.sysreg.specs.declared.regs.Regime.{Regime}
-use Rattle.sysreg.specs.declared.regs.Regime.TheVariants.{El1, El2, El3}
 use Rattle.tlb.specs.Access.{flat_answer}
-use Rattle.tlb.specs.Answers.{Outcome}
-use Rattle.tlb.proofs.FlatLaws.{flat-fits, flat-given}
+use Rattle.tlb.specs.Answers.{Outcome, Answer}
 use Rattle.tlb.specs.Model.{Slot, empty, holds, Line, Known, Model, one_hit, one_walk, same_regime, folded, hint_place, Access, as_user, need, reach_of}
 use Rattle.tlb.specs.Model.{reaches, serving, line_for, address_in, judge as judgeLine, line_of_leaf, walked, looked, unhinted, known_of, noting, noted, knowing}
 use Rattle.tlb.specs.Model.{tried, keep_hint, keep_fetch, hinted, hintable, translate, fetch}
 use Rattle.tlb.specs.declared.access.Kind.{Kind}
-use Rattle.tlb.specs.Answers.{Answer}
-use Rattle.tlb.specs.declared.access.Kind.TheVariants.{Read, Write, Fetch}
+use Rattle.tlb.specs.declared.access.Kind.TheVariants.{Fetch}
 use Rattle.tlb.specs.Fresh.{leaf_answer}
 use Rattle.history.specs.World.{World, Laws, LeavesEqual, page_walk, Plain, regime_now, on_now, untag_now, page_now, need_now, uncached}
 use Rattle.tlb.proofs.Misses.{flat-is}
@@ -30,35 +27,17 @@ use Rattle.history.proofs.Traced.{traced-keep, traced-hint, traced-fetch-hint}
 use Rattle.walk.specs.Answers.{Walked}
 
 same-regime : (r s : Regime) → same_regime r s ≡ true → r ≡ s
-same-regime El1 El1 e = refl
-same-regime El1 El2 e = absurd (false≢true e)
-same-regime El1 El3 e = absurd (false≢true e)
-same-regime El2 El1 e = absurd (false≢true e)
-same-regime El2 El2 e = refl
-same-regime El2 El3 e = absurd (false≢true e)
-same-regime El3 El1 e = absurd (false≢true e)
-same-regime El3 El2 e = absurd (false≢true e)
-same-regime El3 El3 e = refl
+same-regime r s h1 = grind arith
 
 -- without the mark, or for a fetch, the mark does not count
 abbrev Unmarked : Bool → Kind → Type 0
 Unmarked mark k = (k ≡ Fetch) ⊎ (mark ≡ false)
 
-fetch-unmarked : (r : Regime) (el : ℕ) (mark : Bool) → as_user r el mark Fetch ≡ as_user r el false Fetch
-fetch-unmarked El1 zero mark = refl
-fetch-unmarked El1 (suc n) mark = refl
-fetch-unmarked El2 el mark = refl
-fetch-unmarked El3 el mark = refl
-
 unmarked : (r : Regime) (el : ℕ) (mark : Bool) (k : Kind) → Unmarked mark k → as_user r el mark k ≡ as_user r el false k
-unmarked r el mark k (inl e) = rw e (fetch-unmarked r el mark)
-unmarked r el mark k (inr e) = rw e
+unmarked r el mark k h1 = grind arith
 
 hint-unmarked : (k : Kind) (mark : Bool) → hintable k mark ≡ true → mark ≡ false
-hint-unmarked k false e = refl
-hint-unmarked Read true e = absurd (false≢true e)
-hint-unmarked Write true e = absurd (false≢true e)
-hint-unmarked Fetch true e = absurd (false≢true e)
+hint-unmarked k mark h1 = grind arith
 
 place-low : (p : ℕ) → folded p < 256
 unfolding folded
@@ -67,14 +46,10 @@ place-low p = omega arith
 module _ (w : World) where
   -- a hint's place says its kind
   kind-at : (k : Kind) (mark : Bool) (va : ℕ) → hintable k mark ≡ true → kind_at w (hint_place k va) ≡ k
-  kind-at Read mark va e = rw (lt-ltb (0 + folded (va / 4096)) 256 (omega (arith, place-low (va / 4096))))
-  kind-at Write mark va e = rw (le-ltb (256 + folded (va / 4096)) 256 (omega arith))
-  kind-at Fetch mark va e = absurd (false≢true e)
+  kind-at k mark va h1 = grind (arith, lt-ltb, place-low, le-ltb, false≢true)
 
   pub leaf-equal : {ℓ ℓ' : Leaf} (bit va : ℕ) → LeavesEqual ℓ ℓ' → leaf_answer ℓ bit va ≡ leaf_answer ℓ' bit va
-  leaf-equal bit va g =
-      λ i.
-      if g.perms i / bit % 2 == 1 then Ok (g.pages i * 4096 + va % 4096) else Err (first (12 + g.levels i))
+  leaf-equal bit va g = grind arith
 
   -- each walk of the page that no invalidation since covers, global or under today's ASID, equals its walk now
   abbrev pub Agreed : List (Moment w) → w.Regs → w.Ram → Regime → ℕ → Type 0
@@ -92,35 +67,18 @@ module _ (w : World) where
           → Answered x
 
     pub answered-right : {x : Answer} → Agreed h c.regs m (regime_now w c) (page_now w c va) → Answered x → x ≡ uncached w c m k va
-    answered-right st (itself o e) = rw o e
-    answered-right st (by ℓ a o seen d e) =
-        let (ℓ', e', g) = st ℓ a seen d in
-        let (ℓ'', e'', g'', _) = laws.walk-page c.regs m (regime_now w c) (page_now w c va * 4096) (untag_now w c va) (omega arith) ℓ' e' in
-        rw (o, e'') (e ∙ leaf-equal (need_now w c k) va g ∙ leaf-equal (need_now w c k) va g'')
-    answered-right st (failed code o f e) = rw (o, f) e
+    answered-right {x} h1 h2 = grind arith
 
     -- the pages of an address and of its page's first address are untagged to one page
     untag-first : untag_now w c va / 4096 ≡ w.untag c.regs (regime_now w c) (va / 4096 * 4096) / 4096
     untag-first = laws.untag-page c.regs (regime_now w c) va (va / 4096 * 4096) (omega arith)
-
-    offset-first : w.untag c.regs (regime_now w c) (va / 4096 * 4096) % 4096 ≡ 0
-    offset-first = laws.untag-offset c.regs (regime_now w c) (va / 4096 * 4096) ∙ aligned (va / 4096)
-      where
-        aligned : (n : ℕ) → n * 4096 % 4096 ≡ 0
-        aligned n = omega arith
 
     same-need : Unmarked c.privilege.unprivileged k → need_now w c k ≡ need k (as_user (regime_now w c) c.privilege.level false k)
     same-need u = ap (need k) (unmarked (regime_now w c) c.privilege.level c.privilege.unprivileged k u)
 
     answered-hint : (pa : ℕ) → Unmarked c.privilege.unprivileged k → Answered (Ok pa)
         → HintFrom w h c.regs k (va / 4096) c.privilege.level (pa / 4096)
-    answered-hint pa u (itself o e) =
-        let g = flat-given (untag_now w c va) pa (sym e) in
-        let is : untag_now w c va ≡ pa = g.0 in
-        let low : untag_now w c va < 2 ^ 44 = g.1 in
-        let page = untag-first in
-        let first : w.untag c.regs (regime_now w c) (va / 4096 * 4096) ≡ pa / 4096 * 4096 = omega (arith, offset-first) in
-        flat o (ap flat_answer first ∙ flat-fits (pa / 4096 * 4096) (omega arith))
+    answered-hint pa u (itself o e) = grind (arith)
     answered-hint pa u (by ℓ a o seen d e) = go (allows w ℓ (need_now w c k)) refl e
       where
         go : (b : Bool) → allows w ℓ (need_now w c k) ≡ b → Ok pa ≡ (if b then Ok (ℓ.oa / 4096 * 4096 + va % 4096) else Err (first (12 + ℓ.level)))
@@ -133,14 +91,7 @@ module _ (w : World) where
     answered-hint pa u (failed code o f e) = let z : ◌≡◌ {A = ℕ} 0 1 = cc in absurd (omega arith)
 
     hint-answered : (q : ℕ) → Unmarked c.privilege.unprivileged k → HintFrom w h c.regs k (va / 4096) c.privilege.level q → Answered (address_in q va)
-    hint-answered q u (flat o e) =
-        let g = flat-given (w.untag c.regs (regime_now w c) (va / 4096 * 4096)) (q * 4096) e in
-        let is : w.untag c.regs (regime_now w c) (va / 4096 * 4096) ≡ q * 4096 = g.0 in
-        let low : w.untag c.regs (regime_now w c) (va / 4096 * 4096) < 2 ^ 44 = g.1 in
-        let page = untag-first in
-        let offset : untag_now w c va % 4096 ≡ va % 4096 = laws.untag-offset c.regs (regime_now w c) va in
-        let own : q * 4096 + va % 4096 ≡ untag_now w c va = omega arith in
-        itself o (ap Ok own ∙ sym (flat-fits (untag_now w c va) (omega arith)))
+    hint-answered q u (flat o e) = grind (arith)
     hint-answered q u (kept ℓ a o seen d al e) =
         by ℓ a o (subst (λ (p : ℕ). Seen w h (regime_now w c) p ℓ a) (sym untag-first) seen) d
         (rw (same-need u, al) (ap (λ (n : ℕ). Ok (n * 4096 + va % 4096)) e))
@@ -223,15 +174,7 @@ module _ (w : World) where
 
       look-done : on_now w c ≡ true → (x : Slot Line) → LineOk w h x → Fine (looked (serving t.asid (regime_now w c) (page_now w c va) x) a t)
       unfolding looked
-      look-done o empty ok = walk-done o _ refl
-      look-done o (holds l) ok = go (of_page l) (of_regime l) (reaches l.reach t.asid) refl refl refl
-        where
-          go : (p r q : Bool) → of_page l ≡ p → of_regime l ≡ r → reaches l.reach t.asid ≡ q
-              → Fine (looked (if (p && r) && q then holds l else empty) a t)
-          go true true true x y z = line-done o l ok x y z
-          go true true false x y z = walk-done o _ refl
-          go true false q x y z = walk-done o _ refl
-          go false r q x y z = walk-done o _ refl
+      look-done h1 x h2 = search (rules, walk-done, line-done)
 
       pub unhinted-done : Fine (unhinted (on_now w c) a t)
       unfolding unhinted line_for
@@ -307,6 +250,4 @@ module _ (w : World) where
 
       pub fetch-done : k ≡ Fetch → Fine (fetch a t)
       unfolding fetch
-      fetch-done f =
-          subst (λ (x : Access). Fine (tried (knowing (va / 4096) c.privilege.level t.fetch) keep_fetch x t)) (λ i. record a { kind = f i })
-          (fetch-tried f t.fetch (rw (sym f) at s.fetch-ok))
+      fetch-done f = grind (arith, fetch-tried, at)

@@ -1,25 +1,20 @@
 -- The counters of each level over a history: they move by the translations made, one after another.
 use Rattle.std.specs.Prelude.{if◌then◌else◌, ◌≡◌, Bool, ◌&&◌, List, [], ◌∷◌, ◌++◌, ℕ, ◌+◌, ◌%◌, ◌^◌, ◌≤◌, ◌<◌, ◌==◌, Ok, Err}
 use Rattle.std.proofs.Math.Path.{refl}
-use Rattle.std.proofs.Common.{sym, ap, ◌∙◌, arith}
-use Rattle.std.proofs.Math.Bool.{true, false}
-use Rattle.tlb.specs.Asks.{Ask, translates, fetches, onward}
+use Rattle.std.proofs.Common.{◌∙◌, arith}
+use Rattle.tlb.specs.Asks.{Ask, onward}
 use Rattle.tlb.specs.Lists.{Each, done, more}
 use Rattle.tlb.proofs.Lists.{each-imp}
-use Rattle.tlb.specs.Model.{Counters, Model, up, up_at, invalidate, retag, broadcast}
-use Rattle.tlb.specs.Counting.{How, hint_answered, itself, line_answered, walk_answered, how_counted}
-use Rattle.tlb.proofs.Counting.{translate-counts, fetch-counts}
-use Rattle.tlb.specs.Counting.{sums}
-use Rattle.tlb.proofs.Counting.{counted-others, sums-move}
+use Rattle.tlb.specs.Model.{Counters, Model, invalidate, retag, broadcast}
+use Rattle.tlb.specs.Counting.{How, how_counted, sums}
+use Rattle.tlb.proofs.Counting.{translate-counts, fetch-counts, counted-others}
 use Rattle.tlb.specs.declared.Inval.{Inval}
 use Rattle.tlb.specs.Answers.{Answer}
-use Rattle.tlb.specs.declared.access.Kind.TheVariants.{Fetch}
-use Rattle.tlb.specs.declared.Inval.TheVariants.{All, Page, Asid}
-use Rattle.history.specs.World.{World, Plain, access_of}
-use Rattle.history.specs.History.{Effect, nothing, carries, writes, sets, Event, steps, receives, after}
+use Rattle.history.specs.World.{World, Plain}
+use Rattle.history.specs.History.{Effect, Event, steps, receives, after}
 use Rattle.history.proofs.Lists.{event-low}
 use Rattle.history.specs.ModelRun.{model_ask, model_asks, model_flushed, model_retagged, model_after, model_event, model_run}
-use Rattle.history.specs.Tallies.{Made, by_line, by_walk, how_many, at, rust_after, how_asked, made_in, made_run}
+use Rattle.history.specs.Tallies.{Made, by_line, by_walk, how_many, at, rust_after, made_in, made_run}
 
 -- THE COUNTERS AFTER TRANSLATIONS, one after another
 
@@ -43,10 +38,7 @@ then-alike : {k n o : Counters} → Alike k n → Alike n o → Alike k o
 then-alike a b = record { hits = a.hits ∙ b.hits; walks = a.walks ∙ b.walks }
 
 counted-alike : {k n : Counters} (how : How) (level : ℕ) → Alike k n → Alike (how_counted how level k) (how_counted how level n)
-counted-alike hint_answered level a = a
-counted-alike itself level a = a
-counted-alike line_answered level a = record { hits = ap (up_at level) a.hits; walks = a.walks }
-counted-alike walk_answered level a = record { hits = a.hits; walks = ap (up_at level) a.walks }
+counted-alike {k} {n} how level h1 = grind arith
 
 all_alike : {k n : Counters} (xs : List Made) → Alike k n → Alike (counted_all xs k) (counted_all xs n)
 all_alike [] a = a
@@ -54,96 +46,40 @@ all_alike {k = k} {n = n} (x ∷ xs) a =
     all_alike {k = how_counted x.how x.level k} {n = how_counted x.how x.level n} xs (counted-alike x.how x.level a)
 
 module _ (w : World) where
-  asked-counts : (c : Plain w) (m : w.Ram) (a : Ask) (u : Model)
-      → (model_ask w c m a u).after.counts ≡ how_counted (how_asked w c m a u) c.privilege.level u.counts
-  asked-counts c m (translates k va) u = translate-counts (access_of w c m k va) u
-  asked-counts c m (fetches va) u = fetch-counts (access_of w c m Fetch va) u
-
   asks-counts : (c : Plain w) (m : w.Ram) (l : List Ask) (u : Model) → (model_asks w c m l u).counts ≡ counted_all (made_in w c m l u) u.counts
   asks-counts c m [] u = refl
-  asks-counts c m (a ∷ l) u = go (model_ask w c m a u).answer (asks-counts c m l (model_ask w c m a u).after)
-    where
-      asked : Model
-      asked = (model_ask w c m a u).after
-
-      go : (x : Answer) → (model_asks w c m l asked).counts ≡ counted_all (made_in w c m l asked) asked.counts
-          → (onward x (model_asks w c m l asked) asked).counts
-          ≡ counted_all (onward x (made_in w c m l asked) []) (how_counted (how_asked w c m a u) c.privilege.level u.counts)
-      go (Ok pa) rest = rest ∙ ap (counted_all (made_in w c m l asked)) (asked-counts c m a u)
-      go (Err f) rest = asked-counts c m a u
+  asks-counts c m (a ∷ l) u =
+      grind (arith, (asks-counts c m l (model_ask w c m a u).after), translate-counts, fetch-counts)
 
   -- what a step does besides leaves hits and walks
   inval-alike : (v : Inval) (u : Model) → Alike (invalidate v u).counts u.counts
   unfolding invalidate
-  inval-alike All u = record { hits = refl; walks = refl }
-  inval-alike (Page n) u = record { hits = refl; walks = refl }
-  inval-alike (Asid a) u = record { hits = refl; walks = refl }
-
-  flush-alike : (b : Bool) (u : Model) → Alike (if b then u else invalidate All u).counts u.counts
-  flush-alike true u = same_alike
-  flush-alike false u = inval-alike All u
-
-  retag-alike : (b : Bool) (a : ℕ) (u : Model) → Alike (if b then u else retag a u).counts u.counts
-  unfolding retag
-  retag-alike true a u = same_alike
-  retag-alike false a u = record { hits = refl; walks = refl }
+  inval-alike v u = grind arith
 
   effect-alike : (e : Effect w) (c : Plain w) (u : Model) → Alike (model_after w e c u).counts u.counts
-  unfolding broadcast model_retagged model_flushed
-  effect-alike nothing c u = same_alike
-  effect-alike (carries v false) c u = inval-alike v u
-  effect-alike (carries v true) c u = record { hits = (inval-alike v u).hits; walks = (inval-alike v u).walks }
-  effect-alike (writes R) c u =
-      let flushed = model_flushed w c.regs R u in
-      then-alike (retag-alike (flushed.asid == w.asid R) (w.asid R) flushed) (flush-alike (w.same-shape c.regs R) u)
-  effect-alike (sets privilege low) c u = same_alike
+  unfolding broadcast model_retagged model_flushed invalidate retag
+  effect-alike e c u = grind arith
 
   run-alike : (past : List (Event w)) (c : Plain w) (u : Model) → Alike (model_run w c past u).counts (counted_all (made_run w c past u) u.counts)
+  unfolding broadcast model_retagged model_flushed invalidate retag
   run-alike [] c u = same_alike
   run-alike (steps m s ∷ xs) c u =
-      let made = made_in w c m s.asks u in
-      let mid : Alike (model_event w (steps m s) c u).counts (counted_all made u.counts) =
-      then-alike (effect-alike s.effect c (model_asks w c m s.asks u)) (as_is (asks-counts c m s.asks u)) in
-      let rest = made_run w (after w s.effect c) xs (model_event w (steps m s) c u) in
-      then-alike (run-alike xs (after w s.effect c) (model_event w (steps m s) c u))
-      (then-alike (all_alike rest mid) (as_is (sym (counted-append made rest u.counts))))
-    where
-      as_is : {k n : Counters} → k ≡ n → Alike k n
-      as_is e = record { hits = ap (λ (x : Counters). x.hits) e; walks = ap (λ (x : Counters). x.walks) e }
+      grind (arith, (run-alike xs (after w s.effect c) (model_event w (steps m s) c u)), same_alike, then-alike, effect-alike, asks-counts, all_alike, counted-append, inval-alike, u.counts)
   run-alike (receives v ∷ xs) c u =
       then-alike (run-alike xs c (invalidate v u)) (all_alike (made_run w c xs (invalidate v u)) (inval-alike v u))
 
 -- AS NUMBERS
-
--- one more translation: of `hits` where a line answered it at the level l, of `walks` where it was walked there
-raised : (b : Bool) (n : ℕ) → n < 2 ^ 64 → ((if b then up n else n) ≡ (n + (if b then 1 else 0)) % 2 ^ 64) × ((if b then up n else n) < 2 ^ 64)
-raised true n h = (refl, omega arith)
-raised false n h = (omega arith, h)
-
-still : (b : Bool) (n : ℕ) → n < 2 ^ 64 → (n ≡ (n + (if b && false then 1 else 0)) % 2 ^ 64) × (n < 2 ^ 64)
-still true n h = (omega arith, h)
-still false n h = (omega arith, h)
-
-and-true : (b : Bool) → (b && true) ≡ b
-and-true true = refl
-and-true false = refl
 
 abbrev Moves : ℕ → ℕ → Bool → Type 0
 Moves n before b = (n ≡ (before + (if b then 1 else 0)) % 2 ^ 64) × (n < 2 ^ 64)
 
 one_hit : (how : How) (level : ℕ) (k : Counters) (l : ℕ) → k.hits l < 2 ^ 64
     → Moves ((how_counted how level k).hits l) (k.hits l) (l == level && by_line how)
-one_hit hint_answered level k l h = still (l == level) (k.hits l) h
-one_hit itself level k l h = still (l == level) (k.hits l) h
-one_hit line_answered level k l h = rw (and-true (l == level)) (raised (l == level) (k.hits l) h)
-one_hit walk_answered level k l h = still (l == level) (k.hits l) h
+one_hit how level k l h1 = grind arith
 
 one-walk : (how : How) (level : ℕ) (k : Counters) (l : ℕ) → k.walks l < 2 ^ 64
     → Moves ((how_counted how level k).walks l) (k.walks l) (l == level && by_walk how)
-one-walk hint_answered level k l h = still (l == level) (k.walks l) h
-one-walk itself level k l h = still (l == level) (k.walks l) h
-one-walk line_answered level k l h = still (l == level) (k.walks l) h
-one-walk walk_answered level k l h = rw (and-true (l == level)) (raised (l == level) (k.walks l) h)
+one-walk how level k l h1 = grind arith
 
 joined : (n before b rest : ℕ) → n ≡ (before + b) % 2 ^ 64 → (n + rest) % 2 ^ 64 ≡ (before + (b + rest)) % 2 ^ 64
 joined n before b rest e = omega arith
@@ -169,16 +105,10 @@ Low x = x.level ≤ 3
 
 all-sums : (xs : List Made) (k : Counters) → Each Low xs → sums (counted_all xs k) ≡ rust_after xs (sums k)
 all-sums [] k done = refl
-all-sums (x ∷ xs) k (more low rest) =
-    all-sums xs (how_counted x.how x.level k) rest ∙ ap (rust_after xs) (sums-move x.how x.level k low)
+all-sums (x ∷ xs) k (more low rest) = grind (arith, (all-sums xs (how_counted x.how x.level k) rest))
 
 alike-sums : {k n : Counters} → Alike k n → sums k ≡ sums n
-alike-sums a =
-    λ i.
-    record {
-      hits = (a.hits i 0 + a.hits i 1 + a.hits i 2 + a.hits i 3) % 2 ^ 64;
-      walks = (a.walks i 0 + a.walks i 1 + a.walks i 2 + a.walks i 3) % 2 ^ 64;
-    }
+alike-sums a = grind arith
 
 pub each_append : {P : Made → Type 0} {xs ys : List Made} → Each P xs → Each P ys → Each P (xs ++ ys)
 each_append done q = q

@@ -1,7 +1,7 @@
 -- Faithfulness, proved for every registers and walk that keep `Laws`.
+use Rattle.std.proofs.Common.{rules, sym, ap, ◌∙◌, inl, inr}
 use Rattle.std.specs.Prelude.{if◌then◌else◌, ◌≡◌, Bool, List, [], ◌∷◌, ◌++◌, ◌⊎◌, ℕ, ◌≤◌, ◌==◌, Ok, Err}
 use Rattle.std.proofs.Math.Path.{refl}
-use Rattle.std.proofs.Common.{sym, ap, subst, ◌∙◌, inl, inr}
 use Rattle.std.proofs.Math.Bool.{true, false}
 use borrow.Author.Tests.{eqb-true}
 use Rattle.walk.specs.declared.{level.Leaf.Leaf}
@@ -10,7 +10,7 @@ use Rattle.tlb.specs.Lists.{Each, done, more}
 use Rattle.tlb.specs.Tlb.{fresh}
 use Rattle.tlb.specs.Model.{Model, empty_model, invalidate, retag, broadcast}
 use Rattle.tlb.specs.Live.{WellFormed}
-use Rattle.tlb.specs.Asks.{Ask, translates, fetches, kind_of, address_of, Given, onward}
+use Rattle.tlb.specs.Asks.{Ask, translates, fetches, kind_of, address_of, onward}
 use Rattle.tlb.specs.declared.access.Kind.TheVariants.{Fetch}
 use Rattle.tlb.specs.declared.Inval.{Inval}
 use Rattle.tlb.specs.Answers.{Answer}
@@ -20,8 +20,7 @@ use Rattle.history.specs.World.{World, Laws, LeavesEqual, covers, Plain, page_wa
 use Rattle.history.specs.History.{Effect, nothing, carries, writes, sets, Step, Event, steps, receives, after, after_event, plain_run, drops, drops_event}
 use Rattle.history.specs.History.{drops_run, tlb_run, Settled, FaithfulAnswer, EveryHistoryFaithful}
 use Rattle.history.specs.ModelRun.{model_ask, model_answers, model_asks, model_flushed, model_retagged, model_after, model_event, model_run}
-use Rattle.history.proofs.ModelLaws.{run-stands}
-use Rattle.history.proofs.ModelLaws.{fresh-stands, history-model, history-answers}
+use Rattle.history.proofs.ModelLaws.{run-stands, fresh-stands, history-model, history-answers}
 use Rattle.history.proofs.Traced.{Moment, at, drop, Walks, Seen, Traced, traced-empty, traced-at, traced-invalidate, traced-retag, traced-kept}
 use Rattle.history.proofs.Right.{Agreed, answered-right, Done, translate-done, fetch-done}
 
@@ -200,9 +199,7 @@ module _ (w : World) (laws : Laws w) where
     history-traced past = run-traced past c₀ empty_model [] (traced-empty w c₀.regs zero-asid)
 
     pub every_history_faithful : EveryHistoryFaithful w c₀
-    every_history_faithful past m s =
-        subst (λ (l : List Given). Each (FaithfulAnswer w c₀ past m) l) (sym (history-answers w laws c₀ low past m s.asks))
-        (answers-right c₀ past m s.asks (model_run w c₀ past empty_model) (traced-at w m (history-traced past)))
+    every_history_faithful past m s = search (rules, history-answers, answers-right, traced-at, history-traced)
 
     -- beside it: after every history the cache's ASID is that of the registers, and the cache is well-formed
     pub history-asid : (past : List (Event w)) → (tlb_run w c₀ past fresh).asid ≡ w.asid (plain_run w c₀ past).regs

@@ -1,10 +1,9 @@
 -- What the translations of a history did in a cache: they read the descriptors that the plain model's walks fetch.
-use Rattle.std.specs.Prelude.{◌≡◌, List, [], ◌∷◌, ◌++◌, ℕ, ◌+◌, ◌%◌, ◌^◌, ◌≤◌, ◌<◌, Ok, Err}
-use Rattle.std.proofs.Math.Path.{refl}
+use Rattle.std.specs.Prelude.{◌≡◌, List, [], ◌∷◌, ◌++◌, ℕ, ◌+◌, ◌%◌, ◌^◌, ◌≤◌, ◌<◌}
 use Rattle.std.proofs.Common.{arith}
 use Rattle.tlb.specs.Answers.{Answer}
 use Rattle.tlb.specs.Asks.{Ask, translates, fetches, address_of, onward, work_of, works}
-use Rattle.tlb.specs.Counting.{How, hint_answered, itself, line_answered, walk_answered, how_work}
+use Rattle.tlb.specs.Counting.{How, how_work}
 use Rattle.tlb.specs.Live.{live, WellFormed}
 use Rattle.tlb.specs.Model.{Model}
 use Rattle.tlb.specs.declared.access.Kind.TheVariants.{Fetch}
@@ -35,10 +34,7 @@ pub then-adds : (v mid before : Work) (n more : ℕ) → Adds mid before n → A
 then-adds v mid before n more e f = omega arith
 
 adds-work : (how : How) (n : ℕ) (v : Work) → v.reads < 2 ^ 64 → Adds (how_work how n v) v (read_by how n)
-adds-work hint_answered n v small = adds-none v small
-adds-work itself n v small = adds-none v small
-adds-work line_answered n v small = adds-none v small
-adds-work walk_answered n v small = refl
+adds-work how n v h1 = grind arith
 
 module _ (w : World) where
   -- what the steps of a history did, from v on
@@ -68,8 +64,7 @@ module _ (w : World) where
           → Adds (works (access_of w c m) l (tlb_ask w c m a t) (did t v a)) (did t v a) (reads_of (made_in w c m l (model_ask w c m a (live t)).after))
           → Adds (onward x (works (access_of w c m) l (tlb_ask w c m a t) (did t v a)) (did t v a)) v
           ((made w c m a (live t)).reads + reads_of (onward x (made_in w c m l (model_ask w c m a (live t)).after) []))
-      more-add a l t v (Ok pa) one rest = then-adds _ (did t v a) v _ _ one rest
-      more-add a l t v (Err fault) one rest = then-adds _ (did t v a) v _ _ one (adds-none (did t v a) (adds-small (did t v a) v _ one))
+      more-add a l t v x h1 h2 = grind arith
 
       -- a step's translations, one after the other until one faults
       asks-add : (l : List Ask) (t : Tlb) (v : Work) → WellFormed t → v.reads < 2 ^ 64

@@ -1,15 +1,13 @@
 -- Split accesses whose two parts lie in RAM, on plain values, for `search`.
-use Rattle.std.specs.Prelude.{if◌then◌else◌, Some, None, Ok}
-use Rattle.std.proofs.Common.{◌≡◌, ℕ, zero, suc, ◌+◌, ◌-◌, ◌*◌, ◌/◌, ◌%◌, ◌^◌, ◌<◌, ◌≤◌, Bool, true, false, ◌&&◌, ltb, List, length}
-use Rattle.std.proofs.Common.{sym, refl, ap, ◌∙◌, mod-eq_of_lt, suc-add, pow-suc, zero-add, div-one, arith, take-append-drop, pow-add, shr-shr, ltb-false, ltb-true, le-ltb, lt-ltb, le-leb}
-use native.Mathlib.Nat.{pow-zero}
+use Rattle.std.proofs.Common.{rules, ◌≡◌, ℕ, zero, suc, ◌+◌, ◌-◌, ◌*◌, ◌/◌, ◌^◌, ◌<◌, ◌≤◌, Bool, true, false, ◌&&◌, ltb, List, length}
+use Rattle.std.specs.Prelude.{Some, None, Ok}
+use Rattle.std.proofs.Common.{sym, refl, ap, ◌∙◌, mod-eq_of_lt, suc-add, pow-suc, zero-add, arith, take-append-drop, pow-add, shr-shr, ltb-false, ltb-true, le-ltb, lt-ltb, le-leb}
 use Rattle.word.specs.Bits.{wrap}
 use Rattle.word.specs.Ram.{within, written, stored, bytes_of}
 use Rattle.word.proofs.RamLaws.{digit-next, written_next}
-use Rattle.cpu.specs.Place.{byte_at, first_outside, verdict_of}
-use Rattle.cpu.specs.Bytes.{split_value, split_stored, load_of, store_ram}
+use Rattle.cpu.specs.Place.{byte_at, first_outside, verdict_of, Lie}
+use Rattle.cpu.specs.Bytes.{split_stored, load_of, store_ram}
 use Rattle.cpu.proofs.BytesLaws.{stored-length}
-use Rattle.cpu.specs.Place.{Lie}
 use Rattle.quick.specs.AtOnce.{both_inside, both_at, both_stored, pair_at}
 use Rattle.cpu.specs.declared.place.Pages.{Pages}
 use Rattle.cpu.specs.declared.place.Place.TheVariants.{Split}
@@ -17,14 +15,7 @@ use Rattle.cpu.proofs.Moves.{fits-base, fits-end, split-value}
 
 -- n bytes from pa lie in RAM, so each of them does
 one-within : (base len n pa i : ℕ) → base + len < 2 ^ 64 → within base len n pa ≡ true → i < n → within base len 1 (wrap (pa + i)) ≡ true
-one-within base len n pa i h e k =
-    let b : base ≤ pa = fits-base base len n pa true refl (sym e) in
-    let c : pa - base + n ≤ len = fits-end base len n pa true refl (sym e) in
-    let m : (pa + i) % 2 ^ 64 ≡ pa + i = mod-eq_of_lt (omega arith) in
-    rw (m, le-leb base (pa + i) (omega arith), le-leb (pa + i + 1) (base + len) (omega arith))
-
-false-true : false ≡ true → ⊥
-false-true e = cc
+one-within base len n pa i h e k = grind arith
 
 outside-value : (v : ℕ) → None ≡ Some v → ⊥
 outside-value v e = cc
@@ -33,8 +24,7 @@ value-is : (a b : ℕ) → Some a ≡ Some b → a ≡ b
 value-is a b e = cc
 
 and_both : (a b : Bool) → a && b ≡ true → (a ≡ true) × (b ≡ true)
-and_both true b e = (refl, e)
-and_both false b e = absurd (false-true e)
+and_both a b h1 = grind arith
 
 -- the glance says that every byte lies in RAM
 module _ (base len : ℕ) (p : Pages) (n : ℕ) where
@@ -49,39 +39,17 @@ module _ (base len : ℕ) (p : Pages) (n : ℕ) where
 
   unfold-both : both_inside base len p n ≡ true → Fit
   unfolding both_inside
-  unfold-both = go (ltb (2 ^ 64 - 1 - len) base) refl (ltb n p.in_page) refl (ltb 8 n) refl
-    where
-      go : (x : Bool) → ltb (2 ^ 64 - 1 - len) base ≡ x → (y : Bool) → ltb n p.in_page ≡ y → (z : Bool) → ltb 8 n ≡ z
-          → (if x then false else if y then false else if z then false else parts) ≡ true → Fit
-      go true ex y ey z ez e = absurd (false-true e)
-      go false ex true ey z ez e = absurd (false-true e)
-      go false ex false ey true ez e = absurd (false-true e)
-      go false ex false ey false ez e = record { low = ltb-false _ _ ex; some = ltb-false _ _ ey; few = ltb-false _ _ ez; both = e }
+  unfold-both = grind arith
 
   pub both-lie : len < 2 ^ 64 → both_inside base len p n ≡ true → Lie base len p n
-  both-lie h t =
-      let u = unfold-both t in
-      let s : base ≤ 2 ^ 64 - 1 - len = u.low in
-      record { each = λ i k. byte i k (omega arith) (and_both _ _ u.both) (ltb i p.in_page) refl }
-    where
-      byte : (i : ℕ) → i < n → base + len < 2 ^ 64
-          → (within base len p.in_page p.pa ≡ true) × (within base len (n - p.in_page) p.pa2 ≡ true)
-          → (b : Bool) → ltb i p.in_page ≡ b → within base len 1 (byte_at p i) ≡ true
-      byte i k s w true eb = rw eb (one-within base len p.in_page p.pa i s w.0 (ltb-true _ _ eb))
-      byte i k s w false eb =
-          let q : p.in_page ≤ i = ltb-false _ _ eb in
-          rw eb (one-within base len (n - p.in_page) p.pa2 (i - p.in_page) s w.1 (omega arith))
+  both-lie h t = search (rules, unfold-both, and_both, ltb, one-within, ltb-true, ltb-false)
 
 -- THE TWO PARTS OF A STORE
 
 -- a store of no bytes
 stored-none : (base : ℕ) (ram : List ℕ) (pa v : ℕ) → stored base ram 0 pa v ≡ ram
 unfolding stored bytes_of
-stored-none base ram pa v = go (within base (length ram) 0 pa)
-  where
-    go : (b : Bool) → (if b then written ram (pa - base) 0 v else ram) ≡ ram
-    go true = take-append-drop (pa - base) ram
-    go false = refl
+stored-none base ram pa v = grind (arith, length, take-append-drop)
 
 -- of bytes that lie in RAM
 inside : (base : ℕ) (xs : List ℕ) (m q w : ℕ) → base ≤ q → q + m ≤ base + length xs → stored base xs m q w ≡ written xs (q - base) m w
@@ -91,17 +59,7 @@ inside base xs m q w h k = rw (le-leb _ _ h, le-leb _ _ k)
 -- of one byte more: the lowest, and then the others
 stored_next : (base : ℕ) (ram : List ℕ) (n pa v : ℕ) → true ≡ within base (length ram) (suc n) pa
     → stored base ram (suc n) pa v ≡ stored base (stored base ram 1 pa v) n (pa + 1) (v / 256)
-stored_next base ram n pa v e =
-    let b : base ≤ pa = fits-base base (length ram) (suc n) pa true refl e in
-    let t : pa - base + suc n ≤ length ram = fits-end base (length ram) (suc n) pa true refl e in
-    let q : pa + 1 - base ≡ pa - base + 1 = omega arith in
-    let one : stored base ram 1 pa v ≡ written ram (pa - base) 1 v = inside base ram 1 pa v b (omega arith) in
-    let long : length (stored base ram 1 pa v) ≡ length ram = stored-length base ram 1 pa v in
-    inside base ram (suc n) pa v b (omega arith)
-    ∙ written_next ram (pa - base) n v (omega arith)
-    ∙ ap (λ (ys : List ℕ). written ys (pa - base + 1) n (v / 256)) (sym one)
-    ∙ ap (λ (m : ℕ). written (stored base ram 1 pa v) m n (v / 256)) (sym q)
-    ∙ sym (inside base (stored base ram 1 pa v) n (pa + 1) (v / 256) (omega arith) (omega arith))
+stored_next base ram n pa v e = grind (arith, fits-base, length, fits-end, inside, stored-length, written_next)
 
 -- bytes that follow one another in RAM are one part
 row-stored : (base : ℕ) (p : Pages) (v i n q : ℕ) (ram : List ℕ) → ((j : ℕ) → j < n → byte_at p (i + j) ≡ q + j)
@@ -125,9 +83,7 @@ row-stored base p v i (suc n) q ram row e =
 split-join : (base : ℕ) (p : Pages) (v i m n : ℕ) (ram : List ℕ)
     → split_stored base p v i (m + n) ram ≡ split_stored base p (v / 256 ^ m) (i + m) n (split_stored base p v i m ram)
 unfolding split_stored
-split-join base p v i zero n ram =
-    let z : i + 0 ≡ i = omega arith in
-    rw (zero-add n, z, pow-zero 256, div-one v)
+split-join base p v i zero n ram = grind (arith)
 split-join base p v i (suc m) n ram =
     let z : i + suc m ≡ i + 1 + m = omega arith in
     rw (suc-add m n, z, digit-next v m) (split-join base p (v / 256) (i + 1) m n (stored base ram 1 (byte_at p i) v))
@@ -198,18 +154,11 @@ module _ (base : ℕ) (ram : List ℕ) (p : Pages) (n : ℕ) (f : Bool) (ef : f 
   pub both-wrote : length ram < 2 ^ 64 → (xs ys : List ℕ) (v : ℕ) → f ≡ true → xs ≡ stored base ram p.in_page p.pa v
       → ys ≡ stored base xs (n - p.in_page) p.pa2 (v / 2 ^ (p.in_page * 4) / 2 ^ (p.in_page * 4)) → ys ≡ both_stored base ram p n v
   unfolding both_stored
-  both-wrote h xs ys v t ex ey =
-      rw (← ef, t)
-      (ey
-      ∙ ap (stored base xs (n - p.in_page) p.pa2) (shifted v p.in_page)
-      ∙ ap (λ (zs : List ℕ). stored base zs (n - p.in_page) p.pa2 (v / 256 ^ p.in_page)) ex
-      ∙ parts-stored base ram p n v h (sym ef ∙ t))
+  both-wrote h xs ys v t ex ey = grind (arith, shifted, parts-stored)
 
   pub part-shift : f ≡ true → p.in_page * 4 < 64
-  part-shift t =
-      let a : p.in_page ≤ n = (unfold-both base (length ram) p n (sym ef ∙ t)).some in
-      let b : n ≤ 8 = few t in
-      omega arith
+  unfolding both_inside
+  part-shift t = grind arith
 
   pub some : f ≡ true → p.in_page ≤ n
   some t = (unfold-both base (length ram) p n (sym ef ∙ t)).some
@@ -222,8 +171,7 @@ module _ (base : ℕ) (ram : List ℕ) (p : Pages) (n : ℕ) (f : Bool) (ef : f 
 module _ (base : ℕ) (ram : List ℕ) (pa pa2 : ℕ) (f : Bool) (ef : f ≡ both_inside base (length ram) (pair_at pa pa2) 2) where
   pub pair-wrote : length ram < 2 ^ 64 → (xs ys : List ℕ) (v : ℕ) → f ≡ true → xs ≡ stored base ram 1 pa v → ys ≡ stored base xs 1 pa2 (v / 256)
       → ys ≡ both_stored base ram (pair_at pa pa2) 2 v
-  pair-wrote h xs ys v t ex ey =
-      both-wrote base ram (pair_at pa pa2) 2 f ef h xs ys v t ex (ey ∙ ap (stored base xs 1 pa2) (sym (shr-shr v 4 4)))
+  pair-wrote h xs ys v t ex ey = grind (arith, both-wrote, shr-shr)
 
 -- and what it says is what the bytes say
 lie-inside : (base len : ℕ) (p : Pages) (n : ℕ) → Lie base len p n → (m i : ℕ) → i + m ≤ n → first_outside base len p i m ≡ Ok tt
@@ -237,12 +185,7 @@ module _ (base : ℕ) (ram : List ℕ) (p : Pages) (n : ℕ) (h : length ram < 2
 
   pub both-loads : (v : ℕ) → both_at base ram p n ≡ Some v → load_of base ram (Split p) n ≡ Ok v
   unfolding both_at
-  both-loads v = go (both_inside base (length ram) p n) refl
-    where
-      go : (f : Bool) → both_inside base (length ram) p n ≡ f → (if f then Some (split_value base ram p 0 n) else None) ≡ Some v
-          → load_of base ram (Split p) n ≡ Ok v
-      go true ef e = sym (split-value base ram p n v (Ok tt) (sym (all-inside ef)) refl (sym (value-is _ _ e)))
-      go false ef e = absurd (outside-value v e)
+  both-loads v = grind (arith, length, split-value, all-inside, value-is, outside-value)
 
   pub both-judged : both_inside base (length ram) p n ≡ true → verdict_of base (length ram) (Split p) n ≡ Ok tt
   unfolding verdict_of

@@ -1,6 +1,6 @@
 -- A translation that its hint serves, or that no hint serves, and what it reads, on plain values.
-use Rattle.std.specs.Prelude.{if◌then◌else◌, ◌≡◌, Bool, true, false, ℕ, Option, Some, None, Ok}
-use Rattle.std.proofs.Common.{refl, sym, ap, ◌∙◌, subst}
+use Rattle.std.proofs.Common.{arith, refl, sym, ap, ◌∙◌, subst}
+use Rattle.std.specs.Prelude.{if◌then◌else◌, ◌≡◌, Bool, true, ℕ, Option, Some, None, Ok}
 use Rattle.tlb.specs.Answers.{Answer}
 use Rattle.tlb.specs.Translate.{hint_in}
 use Rattle.tlb.specs.declared.{access.Kind.Kind}
@@ -18,18 +18,13 @@ use Rattle.call_words.specs.declared.reply.Report.{Report}
 use Rattle.cpu.specs.Step.{Stepped}
 use Rattle.quick.specs.Says.{Tells, asked_reply, asked_run}
 
-abbrev is_at : Option ℕ → Type 0
-is_at (Some n) = Unit {0}
-is_at None = ⊥
-
 abbrev pub address : Option ℕ → ℕ
 address (Some n) = n
 address None = 0
 
 -- a test that chose a place
 pub chosen : (b : Bool) (x : Option ℕ) (pa : ℕ) → (if b then x else None) ≡ Some pa → (b ≡ true) × (x ≡ Some pa)
-chosen true x pa e = (refl, e)
-chosen false x pa e = absurd (subst is_at (sym e) tt)
+chosen b x pa h1 = grind arith
 
 -- A TRANSLATION, the core d that it leaves, its answer, and what it read
 
@@ -81,23 +76,15 @@ module _ (c : Core) (memory : ℕ → Option ℕ) (va : ℕ) (read kind : Kind) 
 -- A STEP by its reply and by what it read
 pub tells : (s : Stepped) (w : Work) (d : Core) (r : Reply) (k : Work) (n : ℕ) (old new : Report) → record { core = d; reply = r } ≡ s → k ≡ w → n ≡ code_by r
     → new.value ≡ value_by r old.value → new.reads ≡ reads_by r k.reads old.reads → Tells s w old n new d
-tells s w d r k n old new e ew en ev er =
-    record {
-      number = en ∙ ap (λ (x : Stepped). code_by x.reply) e;
-      value = ev ∙ ap (λ (x : Stepped). value_by x.reply old.value) e;
-      reads = er ∙ (λ i. reads_by (e i).reply (ew i).reads old.reads);
-      core = ap (λ (x : Stepped). x.core) e;
-    }
+tells s w d r k n old new e ew en ev er = grind arith
 
 -- the step and what it read by equations
 pub as-told : {s t : Stepped} {k w : Work} {old new : Report} {n : ℕ} {d : Core} → s ≡ t → k ≡ w → Tells s k old n new d → Tells t w old n new d
-as-told {s} {t} {k} {w} {old} {new} {n} {d} es ew told =
-    subst (λ (x : Stepped). Tells x w old n new d) es (subst (λ (x : Work). Tells s x old n new d) ew told)
+as-told {s} {t} {k} {w} {old} {new} {n} {d} es ew told = grind arith
 
 -- a translation by its reply
 pub asked-told : (c : Core) (memory : ℕ → Option ℕ) (va : ℕ) (kind : Kind) (d : Core) (a : Answer) (k : Work) (b : Bool) → Moved c memory va kind d a k
     → (old : Report) (n : ℕ) (new : Report)
     → (n ≡ code_by (asked_reply b va a)) × (new.value ≡ value_by (asked_reply b va a) old.value) × (new.reads ≡ reads_by (asked_reply b va a) k.reads old.reads)
     → Tells (asked_run b va (translate_of c memory va kind)) (translate_work c memory va kind no_work) old n new d
-asked-told c memory va kind d a k b m old n new told =
-    tells _ _ d (asked_reply b va a) k n old new (ap (asked_run b va) m.moved) m.read told.0 told.1 told.2
+asked-told c memory va kind d a k b m old n new told = grind arith

@@ -1,14 +1,13 @@
 -- A call by its checks: past them it is its operation, and where one is missed nothing changes.
-use Rattle.std.specs.Prelude.{◌≡◌, ◌+◌, ◌-◌, ◌^◌, ◌<◌, ◌≤◌, true, false, List, ℕ, zero, suc, length, Option, Some}
-use Rattle.std.proofs.Common.{refl, sym, ap, ◌∙◌, arith, subst, le-ltb}
+use Rattle.std.specs.Prelude.{◌≡◌, ◌-◌, ◌^◌, ◌<◌, ◌≤◌, true, false, List, ℕ, length, Option, Some}
+use Rattle.std.proofs.Common.{refl, sym, ap, ◌∙◌, arith, subst}
 use Rattle.word.specs.Ram.{word_at, width_of, bytes_in}
 use Rattle.word.specs.declared.ram.Width.{Width}
-use Rattle.word.specs.declared.ram.Width.TheVariants.{Byte, Half, Word, Double}
 use Rattle.tlb.specs.declared.access.Kind.{Kind}
 use Rattle.tlb.specs.declared.access.Kind.TheVariants.{Read}
 use Rattle.cpu.specs.Memory.{translate_of, data_pa_of, read_of, write_of, ram_after_write}
 use Rattle.cpu.specs.declared.Core.{Core}
-use Rattle.cpu.specs.Check.{number_of, first_of, passes, ram_rows, sized_rows, missed_of}
+use Rattle.cpu.specs.Check.{number_of, first_of, ram_rows, sized_rows, missed_of}
 use Rattle.cpu.specs.declared.{call.Call.Call, check.Check.Check}
 use Rattle.cpu.specs.declared.call.Reply.TheVariants.{Refused}
 use Rattle.cpu.specs.System.{sys_of, sys_ram}
@@ -43,13 +42,7 @@ module _ (c : Core) (base : ℕ) (ram : List ℕ) (x : Call) where
 
   pub refuses : (k : Check) → number_of k ≡ missed_by c base ram x → ends c (Refused (number_of k)) ≡ step_of c base ram x
   unfolding step_of
-  refuses Check.Level e = rw (← e) refl
-  refuses Check.Window e = rw (← e) refl
-  refuses Check.Size e = rw (← e) refl
-  refuses Check.Encoding e = rw (← e) refl
-  refuses Check.General e = rw (← e) refl
-  refuses Check.Key e = rw (← e) refl
-  refuses Check.Pages e = rw (← e) refl
+  refuses k h1 = grind arith
 
   pub refused : (k : Check) → number_of k ≡ missed_by c base ram x → (old : Report) (n : ℕ) → n ≡ number_of k
       → Tells (step_of c base ram x) (step_work c base ram x no_work) old n old c
@@ -57,34 +50,19 @@ module _ (c : Core) (base : ℕ) (ram : List ℕ) (x : Call) where
 
   pub refused-ram : (k : Check) → number_of k ≡ missed_by c base ram x → ram ≡ ram_after c base ram x
   unfolding ram_after
-  refused-ram Check.Level e = rw (← e) refl
-  refused-ram Check.Window e = rw (← e) refl
-  refused-ram Check.Size e = rw (← e) refl
-  refused-ram Check.Encoding e = rw (← e) refl
-  refused-ram Check.General e = rw (← e) refl
-  refused-ram Check.Key e = rw (← e) refl
-  refused-ram Check.Pages e = rw (← e) refl
+  refused-ram k h1 = grind arith
 
 -- the checks at their quickest: a level up to 3, and a window that ends at the last address or before
 pub known : (w : Width) → width_of (bytes_in w) ≡ Some w
-known Byte = refl
-known Half = refl
-known Word = refl
-known Double = refl
+known w = grind arith
 
 module _ (c : Core) (base : ℕ) (ram : List ℕ) where
   pub clear : c.privilege.level < 4 → length ram < 2 ^ 64 → base ≤ 2 ^ 64 - 1 - length ram → 0 ≡ first_of (ram_rows c.privilege.level base (length ram))
-  clear low long fits =
-      let level = le-ltb 3 c.privilege.level (omega (arith, low)) in
-      let window : passes base (length ram) ≡ false = le-ltb (2 ^ 64) (base + length ram) (omega (arith, long, fits)) in
-      rw (level, window) refl
+  clear low long fits = grind arith
 
   pub clear-sized : (w : Width) → c.privilege.level < 4 → length ram < 2 ^ 64 → base ≤ 2 ^ 64 - 1 - length ram
       → 0 ≡ first_of (sized_rows c.privilege.level base (length ram) (bytes_in w))
-  clear-sized w low long fits =
-      let level = le-ltb 3 c.privilege.level (omega (arith, low)) in
-      let window : passes base (length ram) ≡ false = le-ltb (2 ^ 64) (base + length ram) (omega (arith, long, fits)) in
-      rw (level, window, known w) refl
+  clear-sized w low long fits = grind arith
 
 -- a call that is handed RAM and no more
 module _ (c : Core) (base : ℕ) (ram : List ℕ) (s : Stepped) (w : Work) where
@@ -93,13 +71,7 @@ module _ (c : Core) (base : ℕ) (ram : List ℕ) (s : Stepped) (w : Work) where
   ram-told e old n new d t = rw (← e) t
 
   ram-refuses : (k : Check) → number_of k ≡ first_of (ram_rows c.privilege.level base (length ram)) → ends c (Refused (number_of k)) ≡ ram_checked c base ram s
-  ram-refuses Check.Level e = rw (← e) refl
-  ram-refuses Check.Window e = rw (← e) refl
-  ram-refuses Check.Size e = rw (← e) refl
-  ram-refuses Check.Encoding e = rw (← e) refl
-  ram-refuses Check.General e = rw (← e) refl
-  ram-refuses Check.Key e = rw (← e) refl
-  ram-refuses Check.Pages e = rw (← e) refl
+  ram-refuses k h1 = grind arith
 
   pub ram-refused : (k : Check) → number_of k ≡ first_of (ram_rows c.privilege.level base (length ram)) → (old : Report) (n : ℕ) → n ≡ number_of k
       → Tells (ram_checked c base ram s) w old n old c
@@ -111,8 +83,7 @@ module _ (c : Core) (s : Stepped) (w : Work) (old : Report) (n : ℕ) (new : Rep
   Checked m k = Tells (refused_or m (λ j. ends c (Refused j)) s) k old n new d
 
   pub checked-work : (m : ℕ) → Checked m w → Checked m (refused_or m (λ j. no_work) w)
-  checked-work zero t = t
-  checked-work (suc m) t = record { number = t.number; value = t.value; reads = t.reads; core = t.core }
+  checked-work m h1 = grind arith
 
 module _ (c : Core) (base : ℕ) (ram : List ℕ) (va : ℕ) (old : Report) (n : ℕ) (new : Report) (d : Core) where
   abbrev rows : ℕ

@@ -1,6 +1,6 @@
 -- A fetch, and where one goes, by its one translation; and where a data read goes, on plain values.
-use Rattle.std.specs.Prelude.{◌≡◌, Bool, true, false, List, ℕ, Option, Some, None, Ok, Err}
-use Rattle.std.proofs.Common.{refl, sym, ap, ◌∙◌}
+use Rattle.std.proofs.Common.{arith, refl, sym, ap, ◌∙◌}
+use Rattle.std.specs.Prelude.{◌≡◌, Bool, List, ℕ, Option, Some, None, Ok, Err}
 use Rattle.word.specs.Ram.{word_at}
 use Rattle.fault.specs.declared.Fault.{Fault}
 use Rattle.exception.specs.Abort.{insn_abort_at}
@@ -17,7 +17,6 @@ use Rattle.cpu.specs.Results.{Translated, Fetched}
 use Rattle.cpu.specs.declared.Core.{Core}
 use Rattle.cpu.specs.Bytes.{insn_of}
 use Rattle.cpu.specs.Ends.{external, fetch_end, fetched_from}
-use Rattle.cpu.specs.Step.{after_fetch, after_address}
 use Rattle.cpu.specs.Work.{past_hint_work, fetch_work}
 use Rattle.tlb.specs.Work.{no_work}
 use Rattle.tlb.specs.declared.work.Work.{Work}
@@ -47,8 +46,7 @@ module _ (c : Core) (memory : ℕ → Option ℕ) (va : ℕ) where
   hint-kept : (x : Answer) (t : Tlb) → left (record { core = with_tlb c (data_hint_left c.privilege va Fetch x t); answer = x })
       ≡ record { core = with_tlb c (fetch_left c.privilege.level va x t); answer = x }
   unfolding after_access
-  hint-kept (Ok pa) t = refl
-  hint-kept (Err f) t = refl
+  hint-kept x t = grind arith
 
   fetch-misses : fetch_found c.tlb.fetch c.privilege.level va ≡ None → left (past_hint_of c memory va Fetch) ≡ translate_fetch_of c memory va
   unfolding translate_fetch_of fetch_stepped_now translate_fetch_in past_hint_of past_hint_step
@@ -60,8 +58,7 @@ module _ (c : Core) (memory : ℕ → Option ℕ) (va : ℕ) where
 
   pub fetch-missed : (d e : Core) (x : Answer) (k : Work) → fetch_found c.tlb.fetch c.privilege.level va ≡ None
       → Past c memory va Fetch d x k → e ≡ hint_left d va x → FetchMoved c memory va e x k
-  fetch-missed d e x k h p ee =
-      record { moved = ap (λ (y : Core). record { core = y; answer = x }) ee ∙ ap left p.moved ∙ fetch-misses h; read = p.read ∙ fetch-reads h }
+  fetch-missed d e x k h p ee = grind (arith, fetch-misses, fetch-reads)
 
 -- THE ENDS OF A FETCH
 
@@ -99,5 +96,4 @@ module _ (c : Core) (base : ℕ) (ram : List ℕ) (va : ℕ) (e : Core) (x : Ans
 
     pub told : (insn : Bool) (old : Report) (n : ℕ) (new : Report) (f : Core) → Tells (fetch_ended insn e x base ram va) k old n new f
         → Tells (fetch_run insn c base ram va) (fetch_work c (word_at base ram 8) va no_work) old n new f
-    told true old n new f t = as-told (ap after_fetch fetched-is) by_translation.read t
-    told false old n new f t = as-told (ap after_address reached-is) by_translation.read t
+    told insn old n new f h1 = grind (arith, as-told, fetched-is, reached-is)

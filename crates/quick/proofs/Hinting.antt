@@ -1,12 +1,12 @@
 -- A hint that is asked by one condition, on plain values.
-use Rattle.std.specs.Prelude.{if◌then◌else◌, ◌≡◌, ◌+◌, ◌-◌, ◌*◌, ◌/◌, ◌%◌, ◌^◌, ◌<◌, ◌≤◌, ◌&&◌, ◌||◌, not, nat_le, eqb, leb, Bool, true, false, ℕ}
+use Rattle.std.proofs.Common.{rules, refl, sym, ap, ◌∙◌, arith, subst, eqb-true}
+use Rattle.std.specs.Prelude.{if◌then◌else◌, ◌≡◌, ◌+◌, ◌-◌, ◌*◌, ◌/◌, ◌%◌, ◌^◌, ◌<◌, ◌≤◌, ◌&&◌, ◌||◌, eqb, leb, Bool, true, false, ℕ}
 use Rattle.std.specs.Prelude.{List, length, Option, Some, None, Result, Ok, Err, slice_index_or}
 use Rattle.std.specs.Bool.{then_some}
-use Rattle.std.proofs.Common.{refl, sym, ap, ◌∙◌, arith, subst, eqb-true, le-leb, leb-true}
-use Rattle.std.proofs.lemmas.Bool.{lt-leb, ne_eqb}
+use Rattle.std.proofs.lemmas.Bool.{lt-leb}
 use mir.Val.{bool_byte}
-use Rattle.tlb.specs.Hint.{place_of, data_slot, page_of, on_page, no_hint, fetch_found}
-use Rattle.tlb.specs.declared.access.Kind.TheVariants.{Read, Write}
+use Rattle.tlb.specs.Hint.{place_of, data_slot, on_page, no_hint, fetch_found}
+use Rattle.tlb.specs.declared.access.Kind.TheVariants.{Read}
 use Rattle.tlb.specs.declared.{access.Kind.Kind, access.NoSuchKind.NoSuchKind, hint.Hint.Hint, hint.FetchHint.FetchHint}
 use Rattle.cpu.specs.declared.Core.{Core}
 use Rattle.tlb.specs.Translate.{hint_in}
@@ -28,32 +28,6 @@ pub low : (va : ℕ) → data_slot va Read < 256
 unfolding place_of
 low va = omega arith
 
--- three tests, and the level's and mark's as one number
-all : (a f e : Bool) (x : ℕ) → then_some (true && (e && (a && f))) x ≡ (if a && f then (if e then Some x else None) else None)
-all true true true x = refl
-all true true false x = refl
-all true false true x = refl
-all true false false x = refl
-all false f true x = refl
-all false f false x = refl
-
-abbrev nothing : Option ℕ
-nothing = None
-
-never : (b : Bool) → (if b then nothing else nothing) ≡ nothing
-never true = refl
-never false = refl
-
-asked : (level key page x : ℕ) (f u : Bool) → then_some (true && (eqb key (page + (level + bool_byte u * 256)) && (leb (level + bool_byte u * 256) 3 && f))) x
-    ≡ (if leb level 3 && f then (if not u then (if eqb key (page + level) then Some x else None) else None) else None)
-asked level key page x f true =
-    let over : leb (level + 1 * 256) 3 ≡ false = lt-leb (level + 1 * 256) 3 (omega arith) in
-    let same : Bool = eqb key (page + (level + 1 * 256)) in
-    ap (λ (b : Bool). then_some (true && (same && (b && f))) x) over ∙ all false f same x ∙ sym (never (leb level 3 && f))
-asked level key page x f false =
-    let same : level + 0 * 256 ≡ level = omega arith in
-    ap (λ (n : ℕ). then_some (true && (eqb key (page + n) && (leb n 3 && f))) x) same ∙ all (leb level 3) f (eqb key (page + level)) x
-
 module _ (c : Core) (va base len s : ℕ) (es : s ≡ data_slot va Read) where
   abbrev hint : ℕ → Hint
   hint i = slice_index_or c.tlb.hints i no_hint
@@ -70,25 +44,6 @@ module _ (c : Core) (va base len s : ℕ) (es : s ≡ data_slot va Read) where
   abbrev at : Bool → ℕ → ℕ → Option ℕ
   at known i page = then_some (known && (eqb (hint i).key (page + asker) && (leb asker 3 && fits))) (on_page (hint i).pa va)
 
-  -- of a read or a write, whose place is i
-  placed : (i : ℕ) → at true i (va - va % 4096)
-      ≡ (if plain c base len
-      then (if not c.privilege.unprivileged then (if eqb (hint i).key (va / 4096 * 4096 + c.privilege.level) then Some (on_page (hint i).pa va) else None) else None)
-      else None)
-  placed i =
-      let page : va - va % 4096 ≡ va / 4096 * 4096 = omega arith in
-      ap (at true i) page ∙ asked c.privilege.level (hint i).key (va / 4096 * 4096) (on_page (hint i).pa va) fits c.privilege.unprivileged
-
-  read : at true (s + 0) (va - va % 4096) ≡ (if plain c base len then hint_in c.privilege va Read c.tlb else None)
-  read =
-      let e : s + 0 ≡ data_slot va Read = omega (arith, es) in
-      ap (λ (i : ℕ). at true i (va - va % 4096)) e ∙ placed (data_slot va Read)
-
-  write : at true (s + 256) (va - va % 4096) ≡ (if plain c base len then hint_in c.privilege va Write c.tlb else None)
-  write =
-      let e : s + 256 ≡ data_slot va Write = omega (arith, es) in
-      ap (λ (i : ℕ). at true i (va - va % 4096)) e ∙ placed (data_slot va Write)
-
   abbrev shown : ℕ → Option ℕ
   shown kind = at (eqb kind 1 || eqb kind 2) (s + kind / 2 % 2 * 256) (va - va % 4096)
 
@@ -98,17 +53,8 @@ module _ (c : Core) (va base len s : ℕ) (es : s ≡ data_slot va Read) where
   abbrev agree : ℕ → Type 0
   agree kind = shown kind ≡ meant kind
 
-  rest : (kind : ℕ) (is4 : Bool) → eqb kind 4 ≡ is4 → eqb kind 1 ≡ false → eqb kind 2 ≡ false → agree kind
-  rest kind true e4 e1 e2 = rw (e1, e2, e4) (sym (never (plain c base len)))
-  rest kind false e4 e1 e2 = rw (e1, e2, e4) refl
-
-  writes : (kind : ℕ) (is2 : Bool) → eqb kind 2 ≡ is2 → eqb kind 1 ≡ false → agree kind
-  writes kind true e2 e1 = subst agree (sym (eqb-true kind 2 e2)) write
-  writes kind false e2 e1 = rest kind (eqb kind 4) refl e1 e2
-
   reads : (kind : ℕ) (is1 : Bool) → eqb kind 1 ≡ is1 → agree kind
-  reads kind true e1 = subst agree (sym (eqb-true kind 1 e1)) read
-  reads kind false e1 = writes kind (eqb kind 2) refl e1
+  reads kind is1 h1 = search (rules, eqb-true, lt-leb)
 
   abbrev by : ℕ → Hint → ℕ → Option ℕ
   by kind h pa = then_some ((eqb kind 1 || eqb kind 2) && (eqb h.key (va - va % 4096 + asker) && (leb asker 3 && fits))) pa
@@ -127,20 +73,8 @@ module _ (c : Core) (va base len : ℕ) where
   abbrev fetch_meant : Option FetchHint → Option ℕ
   fetch_meant h = if plain c base len then fetch_found h c.privilege.level va else None
 
-  -- an address's page is no odd number
-  no-page : eqb 1 (page_of va) ≡ false
-  no-page = ne_eqb 1 (page_of va) (λ e. let odd : 1 ≡ va / 4096 * 4096 = e in omega (arith, odd))
-
   fetch-by-page : (h : Option FetchHint) → fetch_by (fetch_hint_of h) (on_page (fetch_hint_of h).pa va) ≡ fetch_meant h
-  fetch-by-page (Some f) =
-      let page : va - va % 4096 ≡ page_of va = omega arith in
-      ap (λ (p : ℕ). then_some ((eqb f.page p && eqb f.level c.privilege.level) && (leb c.privilege.level 3 && fetch_fits)) (on_page f.pa va)) page
-      ∙ all (leb c.privilege.level 3) fetch_fits (eqb f.page (page_of va) && eqb f.level c.privilege.level) (on_page f.pa va)
-  fetch-by-page None =
-      let page : va - va % 4096 ≡ page_of va = omega arith in
-      let not_one : eqb 1 (va - va % 4096) ≡ false = ap (eqb 1) page ∙ no-page in
-      ap (λ (b : Bool). then_some ((b && eqb 0 c.privilege.level) && (leb c.privilege.level 3 && fetch_fits)) (on_page 0 va)) not_one
-      ∙ sym (never (plain c base len))
+  fetch-by-page h = grind arith
 
   pub fetch-asked : (f : FetchHint) (pa : ℕ) → f ≡ fetch_hint_of c.tlb.fetch → pa ≡ on_page f.pa va → fetch_by f pa ≡ fetch_served c base len va
   fetch-asked f pa ef ep = ap (fetch_by f) ep ∙ ap (λ (g : FetchHint). fetch_by g (on_page g.pa va)) ef ∙ fetch-by-page c.tlb.fetch
@@ -148,27 +82,16 @@ module _ (c : Core) (va base len : ℕ) where
 -- WHAT WAS NOT SERVED
 module _ (c : Core) (base len : ℕ) (x : Option ℕ) where
   pub unserved : c.privilege.level < 4 → base ≤ 2 ^ 64 - 1 - len → (if plain c base len then x else None) ≡ None → x ≡ None
-  unserved low fits h =
-      let level : nat_le c.privilege.level 3 ≡ true = le-leb c.privilege.level 3 (omega (arith, low)) in
-      let window : nat_le base (2 ^ 64 - 1 - len) ≡ true = le-leb base (2 ^ 64 - 1 - len) fits in
-      sym (rw (level, window) refl) ∙ h
+  unserved low fits h = grind arith
 
 -- WHAT WAS SERVED
 abbrev is_at : Option ℕ → Type 0
 is_at (Some n) = Unit {0}
 is_at None = ⊥
 
-split : (a b : Bool) (x : Option ℕ) (pa : ℕ) → (if a && b then x else None) ≡ Some pa → (a ≡ true) × (b ≡ true) × (x ≡ Some pa)
-split true true x pa e = (refl, refl, e)
-split true false x pa e = absurd (subst is_at (sym e) tt)
-split false b x pa e = absurd (subst is_at (sym e) tt)
-
 pub plainly : (c : Core) (base len : ℕ) (x : Option ℕ) (pa : ℕ) → (if plain c base len then x else None) ≡ Some pa
     → (c.privilege.level < 4) × (base ≤ 2 ^ 64 - 1 - len) × (x ≡ Some pa)
-plainly c base len x pa e =
-    let s = split (nat_le c.privilege.level 3) (nat_le base (2 ^ 64 - 1 - len)) x pa e in
-    let level : c.privilege.level ≤ 3 = leb-true c.privilege.level 3 s.0 in
-    (omega (arith, level), leb-true base (2 ^ 64 - 1 - len) s.1, s.2)
+plainly c base len x pa e = grind arith
 
 module _ (c : Core) (base : ℕ) (ram : List ℕ) (va : ℕ) (long : length ram < 2 ^ 64) where
   abbrev memory : ℕ → Option ℕ

@@ -1,8 +1,7 @@
 -- A load of one page, by its one translation, on plain values.
-use Rattle.std.specs.Prelude.{if◌then◌else◌, ◌≡◌, Bool, true, false, ◌&&◌, ◌+◌, ◌^◌, ◌<◌, ◌≤◌, List, ℕ, Option, Some, None, Ok, Err}
-use Rattle.std.proofs.Common.{refl, sym, ap, ◌∙◌, arith, le-ltb}
+use Rattle.std.proofs.Common.{rules, refl, sym, ap, ◌∙◌, arith}
+use Rattle.std.specs.Prelude.{◌≡◌, true, false, ◌^◌, ◌<◌, ◌≤◌, List, ℕ, Option, Some, None, Ok, Err}
 use native.Mathlib.Nat.{mod-eq_of_lt}
-use Rattle.word.specs.Bits.{wrap}
 use Rattle.word.specs.Ram.{word_at}
 use Rattle.walk.specs.Regime.{stage1_on}
 use Rattle.sysreg.specs.Regs.{regime_of}
@@ -11,11 +10,11 @@ use Rattle.tlb.specs.declared.access.Kind.TheVariants.{Read}
 use Rattle.fault.specs.declared.Fault.{Fault}
 use Rattle.cpu.specs.Core.{after_access, bank_now}
 use Rattle.cpu.specs.Memory.{stepped_now, located_now, translate_of, loaded_by, read_of}
-use Rattle.cpu.specs.Translations.{located_of, both_pages, one_page, translate_in}
-use Rattle.cpu.specs.Results.{Translated, Loaded, Located, Stepped as Stepped₁}
+use Rattle.cpu.specs.Translations.{located_of}
+use Rattle.cpu.specs.Results.{Translated, Loaded}
 use Rattle.cpu.specs.declared.Core.{Core}
 use Rattle.cpu.specs.Answers.{Got}
-use Rattle.cpu.specs.Place.{in_page, next_page, crosses, goes_on, placed_one, placed_both}
+use Rattle.cpu.specs.Place.{in_page, next_page, crosses, goes_on, placed_one}
 use Rattle.cpu.specs.Ends.{data_abort, external, load_end, loaded_from}
 use Rattle.cpu.specs.declared.place.Place.TheVariants.{Whole, Split}
 use Rattle.cpu.proofs.Moves.{whole-value, whole-abort}
@@ -28,17 +27,11 @@ use Rattle.tlb.specs.Work.{no_work}
 use Rattle.tlb.specs.declared.work.Work.{Work}
 use Rattle.call_words.specs.declared.reply.Report.{Report}
 use Rattle.quick.proofs.ByHint.{Moved, hint-serves, as-told}
-use Rattle.quick.proofs.Works.{and-false, one-reads}
-
-goes-not : (a : Answer) → goes_on a false ≡ false
-goes-not (Ok pa) = refl
-goes-not (Err f) = refl
+use Rattle.quick.proofs.Works.{one-reads}
 
 module _ (c : Core) (base : ℕ) (ram : List ℕ) (va n : ℕ) (near : n ≤ in_page va) where
   pub stays_in : (a : Answer) → goes_on a (crosses (stage1_on (bank_now c) (regime_of c.privilege.level)) va n) ≡ false
-  stays_in a =
-      ap (λ (b : Bool). goes_on a (stage1_on (bank_now c) (regime_of c.privilege.level) && b)) (le-ltb (in_page va) n near)
-      ∙ ap (goes_on a) (and-false (stage1_on (bank_now c) (regime_of c.privilege.level))) ∙ goes-not a
+  stays_in a = grind arith
 
   abbrev ended : Translated → Loaded
   ended t = loaded_by t.core t.core.tlb (load_end (placed_one va t.answer) t.core.last_pa t.core.abort_pa base ram va n)
@@ -70,45 +63,19 @@ module _ (d : Core) (base : ℕ) (ram : List ℕ) (va n : ℕ) where
 
     pub end-outside : w ≡ None → va < 2 ^ 64 → record { core = record d { last_pa = pa; abort_pa = pa }; answer = Err (data_abort va false external) } ≡ by a
     unfolding load_end after_access
-    end-outside q h =
-        let z : va + 0 ≡ va = omega arith in
-        let same : va ≡ wrap (va + 0) = sym (ap wrap z ∙ mod-eq_of_lt h) in
-        ap (λ (x : ℕ). record { core = record d { last_pa = pa; abort_pa = pa }; answer = Err (data_abort x false external) }) same
-        ∙ ap from_ram (whole-abort base ram pa n w ew q) ∙ ap by (sym e)
+    end-outside q h = grind (arith, mod-eq_of_lt, whole-abort)
 
 -- a load of one page, by its translation
 pub told : (c : Core) (base : ℕ) (ram : List ℕ) (va n : ℕ) (d : Core) (a : Answer) (k : Work) (old : Report) (m : ℕ) (new : Report) (e : Core) → n ≤ in_page va
     → Moved c (word_at base ram 8) va Read d a k → Tells (after_load (ended_of d a base ram va n)) k old m new e
     → Tells (after_load (read_of c base ram va n)) (read_work c base ram va n no_work) old m new e
-told c base ram va n d a k old m new e near moved t =
-    as-told (ap after_load (ended-is c base ram va n near d a moved.moved)) (one-reads c (word_at base ram 8) va n Read near k moved.read) t
+told c base ram va n d a k old m new e near moved t = grind (arith, as-told, ended-is, one-reads)
 
 -- two pages by their hints
 module _ (c : Core) (base : ℕ) (ram : List ℕ) (va n pa pa2 v : ℕ) where
-  abbrev memory : ℕ → Option ℕ
-  memory = word_at base ram 8
-
-  abbrev go : Stepped₁ → Located
-  go a = if goes_on a.answer (crosses (stage1_on (bank_now c) (regime_of c.privilege.level)) va n)
-      then both_pages va a.answer (translate_in (bank_now c) c.privilege memory (next_page va) Read a.tlb)
-      else one_page va a
-
-  stepped : (x p : ℕ) → hint_in c.privilege x Read c.tlb ≡ Some p
-      → translate_in (bank_now c) c.privilege memory x Read c.tlb ≡ record { tlb = c.tlb; answer = Ok p }
-  unfolding translate_of stepped_now after_access
-  stepped x p h = ap (λ (t : Translated). record { tlb = t.core.tlb; answer = t.answer }) (hint-serves c memory x Read p h)
-
   pub two-read : crosses (stage1_on (bank_now c) (regime_of c.privilege.level)) va n ≡ true
       → hint_in c.privilege va Read c.tlb ≡ Some pa → hint_in c.privilege (next_page va) Read c.tlb ≡ Some pa2
       → load_of base ram (Split (record { in_page = in_page va; pa = pa; pa2 = pa2 })) n ≡ Ok v
       → record { core = record c { last_pa = pa }; answer = Ok v } ≡ read_of c base ram va n
-  unfolding read_of located_now located_of load_end after_access
-  two-read k h h2 w =
-      let second : both_pages va (Ok pa) (translate_in (bank_now c) c.privilege memory (next_page va) Read c.tlb)
-      ≡ record { tlb = c.tlb; placed = placed_both va (Ok pa) (Ok pa2) }
-      = ap (both_pages va (Ok pa)) (stepped (next_page va) pa2 h2) in
-      let first : located_of (bank_now c) c.privilege memory va n Read c.tlb ≡ go (record { tlb = c.tlb; answer = Ok pa }) = ap go (stepped va pa h) in
-      let chosen : go (record { tlb = c.tlb; answer = Ok pa })
-      ≡ both_pages va (Ok pa) (translate_in (bank_now c) c.privilege memory (next_page va) Read c.tlb) = rw k refl in
-      sym (ap (λ (a : Located). loaded_by c a.tlb (load_end a.placed c.last_pa c.abort_pa base ram va n)) (first ∙ chosen ∙ second)
-      ∙ ap (λ (g : Got). loaded_by c c.tlb (loaded_from (Split (record { in_page = in_page va; pa = pa; pa2 = pa2 })) g c.abort_pa va)) w)
+  unfolding read_of located_now located_of load_end after_access translate_of stepped_now
+  two-read k h h2 w = search (rules, hint-serves)

@@ -1,8 +1,7 @@
 -- A store of one page, by its one translation, and of two by their hints, on plain values.
-use Rattle.std.specs.Prelude.{if◌then◌else◌, ◌≡◌, length, Bool, true, false, ◌+◌, ◌-◌, ◌^◌, ◌<◌, ◌≤◌, List, ℕ, Option, Some, Ok, Err}
-use Rattle.std.proofs.Common.{refl, sym, ap, ◌∙◌, arith, subst}
+use Rattle.std.proofs.Common.{rules, refl, sym, ap, ◌∙◌, arith, subst}
+use Rattle.std.specs.Prelude.{◌≡◌, length, Bool, true, false, ◌-◌, ◌^◌, ◌<◌, ◌≤◌, List, ℕ, Option, Some, Ok, Err}
 use native.Mathlib.Nat.{mod-eq_of_lt}
-use Rattle.word.specs.Bits.{wrap}
 use Rattle.word.specs.Ram.{word_at, within, stored, bytes_in}
 use Rattle.walk.specs.Regime.{stage1_on}
 use Rattle.sysreg.specs.Regs.{regime_of}
@@ -12,16 +11,15 @@ use Rattle.tlb.specs.declared.access.Kind.TheVariants.{Write}
 use Rattle.fault.specs.declared.Fault.{Fault}
 use Rattle.cpu.specs.Core.{after_access, bank_now}
 use Rattle.cpu.specs.Memory.{stepped_now, located_now, translate_of, stored_by, write_of, ram_after_write}
-use Rattle.cpu.specs.Translations.{located_of, both_pages, one_page, translate_in}
-use Rattle.cpu.specs.Results.{Translated, Stored, Located, Stepped as Stepped₁}
+use Rattle.cpu.specs.Translations.{located_of}
+use Rattle.cpu.specs.Results.{Translated, Stored}
 use Rattle.cpu.specs.declared.Core.{Core}
 use Rattle.cpu.specs.Answers.{Verdict}
-use Rattle.cpu.specs.Place.{in_page, next_page, crosses, goes_on, placed_both}
+use Rattle.cpu.specs.Place.{in_page, next_page, crosses}
 use Rattle.cpu.specs.Bytes.{store_ram}
 use Rattle.quick.specs.AtOnce.{both_inside, both_stored, pair_at}
 use Rattle.cpu.specs.Ends.{data_abort, external, store_end, store_end_by, store_ram_end}
 use Rattle.cpu.specs.declared.place.Pages.{Pages}
-use Rattle.cpu.specs.declared.place.Place.TheVariants.{Split}
 use Rattle.cpu.proofs.Moves.{whole-inside, whole-outside}
 use Rattle.quick.proofs.Both.{both-judged, both-stores}
 use Rattle.word.specs.declared.ram.Width.{Width}
@@ -87,19 +85,14 @@ module _ (d : Core) (base : ℕ) (ram : List ℕ) (va n : ℕ) where
 
       pub end-outside : f ≡ false → va < 2 ^ 64 → record { core = record d { abort_pa = pa }; answer = Err (data_abort va true external) } ≡ by a
       unfolding store_end after_access
-      end-outside t h =
-          let z : va + 0 ≡ va = omega arith in
-          let same : va ≡ wrap (va + 0) = sym (ap wrap z ∙ mod-eq_of_lt h) in
-          ap (λ (x : ℕ). record { core = record d { abort_pa = pa }; answer = Err (data_abort x true external) }) same
-          ∙ ap judged (whole-outside base ram pa n f t ef) ∙ ap by (sym e)
+      end-outside t h = grind (arith, mod-eq_of_lt, whole-outside)
 
 -- a store of one page, by its translation
 module _ (c : Core) (base : ℕ) (ram : List ℕ) (va n : ℕ) (near : n ≤ in_page va) (d : Core) (a : Answer) (k : Work)
     (moved : Moved c (word_at base ram 8) va Write d a k) where
   pub told : (old : Report) (m : ℕ) (new : Report) (e : Core) → Tells (after_store (stored_of d a base ram va n)) k old m new e
       → Tells (after_store (write_of c base ram va n)) (write_work c base ram va n no_work) old m new e
-  told old m new e t =
-      as-told (ap after_store (stored-is c base ram va n near d a moved.moved)) (one-reads c (word_at base ram 8) va n Write near k moved.read) t
+  told old m new e t = grind (arith, as-told, stored-is, one-reads)
 
   pub put-told : (v : ℕ) (ys : List ℕ) → ys ≡ put_of a base ram va n v → ys ≡ ram_after_write c base ram va n v
   put-told v ys q = q ∙ put-is c base ram va n near d a moved.moved v
@@ -112,41 +105,16 @@ module _ (c : Core) (base : ℕ) (ram : List ℕ) (va n pa pa2 : ℕ) where
   abbrev pages : Pages
   pages = record { in_page = in_page va; pa = pa; pa2 = pa2 }
 
-  abbrev go : Stepped₁ → Located
-  go a = if goes_on a.answer (crosses (stage1_on (bank_now c) (regime_of c.privilege.level)) va n)
-      then both_pages va a.answer (translate_in (bank_now c) c.privilege memory (next_page va) Write a.tlb)
-      else one_page va a
-
-  stepped : (x p : ℕ) → hint_in c.privilege x Write c.tlb ≡ Some p
-      → translate_in (bank_now c) c.privilege memory x Write c.tlb ≡ record { tlb = c.tlb; answer = Ok p }
-  unfolding translate_of stepped_now after_access
-  stepped x p h = ap (λ (t : Translated). record { tlb = t.core.tlb; answer = t.answer }) (hint-serves c memory x Write p h)
-
   module _ (k : crosses (stage1_on (bank_now c) (regime_of c.privilege.level)) va n ≡ true) (h : hint_in c.privilege va Write c.tlb ≡ Some pa)
       (h2 : hint_in c.privilege (next_page va) Write c.tlb ≡ Some pa2) where
-    located-two : located_now c memory va n Write ≡ record { tlb = c.tlb; placed = Ok (Split pages) }
-    unfolding located_now located_of
-    located-two =
-        let second : both_pages va (Ok pa) (translate_in (bank_now c) c.privilege memory (next_page va) Write c.tlb)
-        ≡ record { tlb = c.tlb; placed = placed_both va (Ok pa) (Ok pa2) }
-        = ap (both_pages va (Ok pa)) (stepped (next_page va) pa2 h2) in
-        let first : located_of (bank_now c) c.privilege memory va n Write c.tlb ≡ go (record { tlb = c.tlb; answer = Ok pa }) = ap go (stepped va pa h) in
-        let chosen : go (record { tlb = c.tlb; answer = Ok pa })
-        ≡ both_pages va (Ok pa) (translate_in (bank_now c) c.privilege memory (next_page va) Write c.tlb) = rw k refl in
-        first ∙ chosen ∙ second
-
     module _ (long : length ram < 2 ^ 64) where
       two-write : both_inside base (length ram) pages n ≡ true → record { core = c; answer = Ok tt } ≡ write_of c base ram va n
-      unfolding write_of store_end after_access
-      two-write t =
-          sym (ap (λ (x : Verdict). stored_by c c.tlb (store_end_by x c.abort_pa va)) (both-judged base ram pages n long t))
-          ∙ sym (ap (λ (a : Located). stored_by c a.tlb (store_end a.placed c.abort_pa base ram va n)) located-two)
+      unfolding write_of store_end after_access located_now located_of translate_of stepped_now
+      two-write t = search (rules, both-judged, hint-serves)
 
       two-put : (v : ℕ) → both_inside base (length ram) pages n ≡ true → both_stored base ram pages n v ≡ ram_after_write c base ram va n v
-      unfolding ram_after_write store_ram_end
-      two-put v t =
-          sym (both-stores base ram pages n long v t)
-          ∙ sym (ap (λ (a : Located). store_ram_end a.placed base ram n v) located-two)
+      unfolding ram_after_write store_ram_end located_now located_of translate_of stepped_now after_access
+      two-put v t = search (rules, both-stores, hint-serves)
 
       -- by the one test
       pub put-two : c.privilege.level < 4 → base ≤ 2 ^ 64 - 1 - length ram → (v : ℕ) (f : Bool) (ys : List ℕ) → f ≡ both_inside base (length ram) pages n → ys ≡ both_stored base ram pages n v
@@ -166,7 +134,4 @@ kept c base ram va n v f ys e p = subst (λ (b : Bool). PutTwo c base ram va n v
 
 -- two bytes, one in each page
 pub pair-is : (p : Pages) (w : Width) → w ≡ Half → 0 < p.in_page → p.in_page < bytes_in w → p ≡ pair_at p.pa p.pa2
-pair-is p w e some few =
-    let small : p.in_page < 2 = subst (λ (x : Width). p.in_page < bytes_in x) e few in
-    let one : p.in_page ≡ 1 = omega arith in
-    ap (λ (n : ℕ). record p { in_page = n }) one
+pair-is p w e some few = grind arith

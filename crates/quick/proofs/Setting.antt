@@ -1,12 +1,11 @@
 -- What a register write and a setting leave, whatever RAM stands there.
-use Rattle.std.specs.Prelude.{◌≡◌, ◌<◌, ◌≤◌, ◌==◌, ◌||◌, ◌∷◌, [], nat_lt, not, Bool, true, false, List, ℕ, zero, suc, Ok, Err, Option, Some, None}
+use Rattle.std.specs.Prelude.{◌≡◌, ◌<◌, ◌≤◌, ◌==◌, ◌∷◌, [], nat_lt, not, false, List, ℕ, Err, Option, Some, None}
 use Rattle.std.proofs.Common.{refl, sym, ap, ◌∙◌, arith, le-ltb, lt-ltb, subst}
-use native.Mathlib.Nat.{mod-eq_of_lt}
 use Rattle.sysreg.specs.Write.{WriteAnswer}
 use Rattle.sysreg.specs.Encoding.{register_at}
 use Rattle.sysreg.specs.declared.regs.Register.{Register as Kept}
 use Rattle.sysreg.proofs.WriteLaws.{write-nothing}
-use Rattle.sysreg.specs.declared.write.WriteError.TheVariants.{Undefined, NoRegister}
+use Rattle.sysreg.specs.declared.write.WriteError.TheVariants.{NoRegister}
 use Rattle.cpu.specs.Core.{set_reg}
 use Rattle.exception.specs.declared.kind.Exception.{Exception}
 use Rattle.cpu.specs.declared.Core.{Core}
@@ -15,13 +14,12 @@ use Rattle.cpu.specs.Check.{missed_of, first_of, kept, number_of}
 use Rattle.cpu.specs.Replies.{registering}
 use Rattle.cpu.specs.declared.check.Check.{Check}
 use Rattle.cpu.specs.declared.call.Call.{Call}
-use Rattle.cpu.specs.declared.call.Call.TheVariants.{Register, Level, Mark, General, Abort}
+use Rattle.cpu.specs.declared.call.Call.TheVariants.{Register, Level, General, Abort}
 use Rattle.cpu.specs.declared.call.Reply.{Reply}
 use Rattle.cpu.specs.declared.call.Reply.TheVariants.{Refused, Done}
-use Rattle.cpu.specs.Step.{refused_or, missed_by, step_of, run_of, after_write}
+use Rattle.cpu.specs.Step.{step_of, run_of, after_write}
 use Rattle.cpu.specs.Work.{run_work, step_work}
 use Rattle.tlb.specs.Work.{no_work}
-use Rattle.tlb.specs.declared.work.Work.{Work}
 use Rattle.call_words.specs.Replies.{code_by, value_by, reads_by}
 use Rattle.call_words.specs.Ops.{mark_call}
 use Rattle.call_words.specs.declared.op.DecodedCall.{DecodedCall}
@@ -30,17 +28,10 @@ use Rattle.quick.specs.Says.{Says, Sets, unread}
 use Rattle.quick.proofs.ByHint.{tells}
 use Rattle.quick.proofs.Checks.{passed, refuses}
 
--- it reads nothing, so that a report of no reads stays
-refused-same : (m : ℕ) (w : Work) → refused_or m (λ j. w) w ≡ w
-refused-same zero w = refl
-refused-same (suc m) w = refl
-
 set-tells : (c : Core) (base : ℕ) (ram : List ℕ) (x : Call) (d : Core) (r : Reply) (n v : ℕ) → run_work c base ram x no_work ≡ no_work
     → record { core = d; reply = r } ≡ step_of c base ram x → n ≡ code_by r → v ≡ value_by r v → 0 ≡ reads_by r 0 0 → Says (Known x) c base ram (unread v) n (unread v) d
 unfolding step_work
-set-tells c base ram x d r n v none e en ev er =
-    tells _ _ d r no_work n (unread v) (unread v) e
-    (sym (ap (refused_or (missed_by c base ram x) (λ j. no_work)) none ∙ refused-same (missed_by c base ram x) no_work)) en ev er
+set-tells c base ram x d r n v none e en ev er = grind arith
 
 -- REGISTERS
 
@@ -54,14 +45,10 @@ module _ (c : Core) (k key v : ℕ) (ek : k ≡ key) where
   missed = first_of ((nat_lt 3 c.privilege.level, 1) ∷ (not (kept k), 6) ∷ [])
 
   no-value : (a : WriteAnswer) (v : ℕ) → v ≡ value_by (registering a) v
-  no-value (Ok x) v = refl
-  no-value (Err Undefined) v = refl
-  no-value (Err NoRegister) v = refl
+  no-value a v = grind arith
 
   no-reads : (a : WriteAnswer) → 0 ≡ reads_by (registering a) 0 0
-  no-reads (Ok x) = refl
-  no-reads (Err Undefined) = refl
-  no-reads (Err NoRegister) = refl
+  no-reads a = grind arith
 
   named : (n : ℕ) (d : Core) → Sets (Known (Register k v)) c n d → Sets (Known (Register key v)) c n d
   named n d s = subst (λ (x : ℕ). Sets (Known (Register x v)) c n d) ek s
@@ -76,9 +63,8 @@ module _ (c : Core) (k key v : ℕ) (ek : k ≡ key) where
       })
 
   register-refused : (x : Check) (n : ℕ) → number_of x ≡ missed → n ≡ number_of x → Sets (Known (Register key v)) c n c
-  unfolding run_work missed_of
-  register-refused x n e en =
-      named n c (record { on = λ base ram w. set-tells c base ram (Register k v) c (Refused (number_of x)) n w refl (refuses c base ram (Register k v) x e) en refl refl })
+  unfolding run_work missed_of step_work
+  register-refused x n e en = grind (arith, tells, refuses)
 
   pub register-high : 3 < c.privilege.level → Sets (Known (Register key v)) c 1 c
   register-high h = register-refused Check.Level 1 (rw (lt-ltb 3 c.privilege.level h) refl) refl
@@ -104,20 +90,11 @@ module _ (c : Core) (k key v : ℕ) (ek : k ≡ key) where
 
 -- SETTINGS
 
-or-true : (b : Bool) → (b || true) ≡ true
-or-true true = refl
-or-true false = refl
-
 module _ (c : Core) where
   module _ (l : ℕ) where
     pub level-set : c.privilege.level < 4 → l < 4 → Sets (Known (Level l)) c 0 (set_level c l)
-    unfolding step_of run_of run_work missed_of
-    level-set h k =
-        record {
-          on = λ base ram w.
-              set-tells c base ram (Level l) (set_level c l) Done 0 w refl
-              (rw (le-ltb 3 c.privilege.level (omega arith), le-ltb 3 l (omega arith), mod-eq_of_lt k) refl) refl refl refl;
-        }
+    unfolding step_of run_of run_work missed_of step_work
+    level-set h k = grind arith
 
     pub level-high : 3 < c.privilege.level → Sets (Known (Level l)) c 1 c
     unfolding step_of run_of run_work missed_of
@@ -125,31 +102,20 @@ module _ (c : Core) where
 
     pub level-over : 3 < l → Sets (Known (Level l)) c 1 c
     unfolding step_of run_of run_work missed_of
-    level-over h =
-        record { on = λ base ram w. set-tells c base ram (Level l) c (Refused 1) 1 w refl (rw (lt-ltb 3 l h, or-true (nat_lt 3 c.privilege.level)) refl) refl refl refl }
+    level-over h = grind arith
 
   pub mark-set : (n : ℕ) → n ≤ 1 → c.privilege.level < 4 → Sets (mark_call n) c 0 (set_mark c (n == 1))
-  unfolding step_of run_of run_work missed_of
-  mark-set zero h k =
-      record { on = λ base ram w. set-tells c base ram (Mark false) (set_mark c false) Done 0 w refl (rw (le-ltb 3 c.privilege.level (omega arith)) refl) refl refl refl }
-  mark-set (suc zero) h k =
-      record { on = λ base ram w. set-tells c base ram (Mark true) (set_mark c true) Done 0 w refl (rw (le-ltb 3 c.privilege.level (omega arith)) refl) refl refl refl }
-  mark-set (suc (suc n)) h k = absurd (omega arith)
+  unfolding step_of run_of run_work missed_of step_work
+  mark-set n h1 h2 = grind arith
 
   pub mark-high : (n : ℕ) → n ≤ 1 → 3 < c.privilege.level → Sets (mark_call n) c 1 c
   unfolding step_of run_of run_work missed_of
-  mark-high zero h k = record { on = λ base ram w. set-tells c base ram (Mark false) c (Refused 1) 1 w refl (rw (lt-ltb 3 c.privilege.level k) refl) refl refl refl }
-  mark-high (suc zero) h k = record { on = λ base ram w. set-tells c base ram (Mark true) c (Refused 1) 1 w refl (rw (lt-ltb 3 c.privilege.level k) refl) refl refl refl }
-  mark-high (suc (suc n)) h k = absurd (omega arith)
+  mark-high n h1 h2 = grind arith
 
   module _ (n v : ℕ) where
     pub general-set : c.privilege.level < 4 → n < 32 → Sets (Known (General n v)) c 0 (set_reg c n v)
-    unfolding step_of run_of run_work missed_of
-    general-set h k =
-        record {
-          on = λ base ram w.
-              set-tells c base ram (General n v) (set_reg c n v) Done 0 w refl (rw (le-ltb 3 c.privilege.level (omega arith), le-ltb 31 n (omega arith)) refl) refl refl refl;
-        }
+    unfolding step_of run_of run_work missed_of step_work
+    general-set h k = grind arith
 
     -- register 31 takes nothing
     unset : n ≡ 31 → c ≡ set_reg c n v
@@ -165,11 +131,7 @@ module _ (c : Core) where
 
     pub general-over : c.privilege.level < 4 → 31 < n → Sets (Known (General n v)) c 5 c
     unfolding step_of run_of run_work missed_of
-    general-over h k =
-        record {
-          on = λ base ram w.
-              set-tells c base ram (General n v) c (Refused 5) 5 w refl (rw (le-ltb 3 c.privilege.level (omega arith), lt-ltb 31 n k) refl) refl refl refl;
-        }
+    general-over h k = grind arith
 
   module _ (e : Exception) where
     pub abort-set : c.privilege.level < 4 → Sets (Known (Abort e)) c 0 (abort_of c e)

@@ -1,9 +1,8 @@
 -- Where the answers to a call's translations are those of the core without a cache, so are its reply and RAM after it.
+use Rattle.std.proofs.Common.{arith, rules, sym, ap, subst, ◌∙◌, append-nil}
 use Rattle.std.specs.Prelude.{◌≡◌, refl, List, [], ◌∷◌, ◌++◌, ℕ, zero, suc, ◌+◌, ◌%◌, Option, Ok, Err}
-use Rattle.std.proofs.Common.{sym, ap, subst, ◌∙◌, append-nil}
 use Rattle.word.specs.Bits.{align_down, wrap}
-use Rattle.word.specs.Ram.{width_of}
-use Rattle.tlb.specs.Asks.{Ask, translates, Given, kind_of, address_of, onward}
+use Rattle.tlb.specs.Asks.{Ask, translates, Given}
 use Rattle.tlb.proofs.Asks.{onward-same}
 use Rattle.tlb.specs.declared.access.Kind.TheVariants as Kind
 use Rattle.tlb.specs.declared.Tlb.{Tlb}
@@ -16,18 +15,16 @@ use Rattle.cpu.specs.declared.call.Call.{Call}
 use Rattle.cpu.specs.Answers.{StoreAnswer}
 use Rattle.cpu.specs.System.{zero_of, zero_ram}
 use Rattle.cpu.specs.Replies.{storing}
-use Rattle.cpu.specs.declared.call.Call.TheVariants.{Translate, DataPa, FetchPa, Load, Store, Fetch, System}
-use Rattle.history.specs.World.{on_now, uncached}
-use Rattle.history.specs.History.{Event, steps}
+use Rattle.history.specs.World.{uncached}
+use Rattle.history.specs.History.{Event}
 use Rattle.history.specs.Invisible.{answers_run, plain_answers, plain_answers_run}
 use Rattle.history.specs.Instance.{Ram, window_of, real}
-use Rattle.transparency.specs.Bare.{op_in, operand_in, Ruling, allowed, ruling_in, refusal_of, if_allowed}
-use Rattle.transparency.specs.Events.{plain_in}
-use Rattle.transparency.specs.Events.{idle, zero_steps, sys_steps, steps_in, events_in}
+use Rattle.transparency.specs.Bare.{operand_in}
+use Rattle.transparency.specs.Events.{plain_in, zero_steps, sys_steps, steps_in, events_in}
 use Rattle.transparency.specs.Claim.{access_in, sized_in}
 use Rattle.transparency.specs.Starts.{ram_zeroed, zero_later, sys_later, later_of, later_in}
 use Rattle.transparency.specs.Steps.{on_done}
-use Rattle.transparency.specs.Replies.{Outcome, outcome, outcome_of, store_says, load_by_size, store_by_size, bare_answers, bare_zero_one}
+use Rattle.transparency.specs.Replies.{Outcome, outcome, outcome_of, load_by_size, store_by_size, bare_answers, bare_zero_one}
 use Rattle.transparency.specs.Says.{sys_says, call_says}
 use Rattle.transparency.specs.Replies.{bare_zero, bare_sys, bare_call, bare_reply}
 use Rattle.transparency.proofs.Bridge.{stored-bare, stored-tlb}
@@ -35,18 +32,12 @@ use Rattle.transparency.proofs.Answered.{one-page, next-aligned, start-aligned, 
 use Rattle.transparency.proofs.Answered.{tlb_then, store_given, one-given, one-outcome, zero-said, reply-is}
 use Rattle.word.specs.declared.ram.Width.{Width}
 
-cons_head : {g h : Given} {l k : List Given} → ◌≡◌ {A = List Given} (g ∷ l) (h ∷ k) → g ≡ h
-cons_head e = cc
-
 cons_tail : {g h : Given} {l k : List Given} → ◌≡◌ {A = List Given} (g ∷ l) (h ∷ k) → l ≡ k
 cons_tail e = cc
 
 -- the answers of the core without a cache are those of the theory
 answers-alone : (b : Bare) (m : Ram) (l : List Ask) → plain_answers real (plain_in b) m l ≡ bare_answers b m l
-answers-alone b m [] = refl
-answers-alone b m (a ∷ l) =
-    let x = uncached real (plain_in b) m (kind_of a) (address_of a) in
-    ap {B = List Given} (λ k. record { ask = a; answer = x } ∷ onward x k []) (answers-alone b m l)
+answers-alone b m l = grind arith
 
 -- ZEROING
 
@@ -59,9 +50,7 @@ module _ (c : Core) (m : Ram) (va : ℕ) (al : va % 8 ≡ 0) where
   plain_given = record { ask = translates Kind.Write va; answer = uncached real (plain_in (bare_of c)) m Kind.Write va }
 
   first_plain : bare_answers (bare_of c) m (access_in (bare_of c) va 8 Kind.Write) ≡ plain_given ∷ []
-  first_plain =
-      rw (one-page (on_now real (plain_in (bare_of c))) va al)
-      (ap {B = List Given} (λ (l : List Given). plain_given ∷ l) (onward-same plain_given.answer []))
+  first_plain = grind (arith, one-page, onward-same)
 
   -- the first answers are equal, and so are the rest
   module _ (l k : List Given) (e : access_given c m va 8 Kind.Write ++ l ≡ plain_answers real (plain_in (bare_of c)) m (access_in (bare_of c) va 8 Kind.Write) ++ k) where
@@ -72,10 +61,7 @@ module _ (c : Core) (m : Ram) (va : ℕ) (al : va % 8 ≡ 0) where
     rest-same = cons_tail both
 
     one_same : outcome (storing (store_ends c m va)) (ram_zeroed c m va).bytes ≡ bare_zero_one (bare_of c) m va
-    one_same =
-        store-answered c m va 8 0
-        ∙ ap (store_says m va 8 0)
-        (one-given (bare_of c) c.tlb m va al ∙ ap {B = List Given} (λ (g : Given). g ∷ []) (cons_head both) ∙ sym first_plain)
+    one_same = grind (arith, store-answered, one-given, one-page, onward-same)
 
 zero-alone : (n : ℕ) (c : Core) (m : Ram) (va : ℕ) → va % 8 ≡ 0
     → zero_given (bare_of c) c.tlb m (zero_later n c m va) va ≡ zero_plain (bare_of c) m (zero_later n c m va) va
@@ -151,25 +137,7 @@ module _ (c : Core) (m : Ram) where
 
   call-alone : (x : Call) → with-cache (steps_in b m (later_of c m x) x) ≡ without (steps_in b m (later_of c m x) x)
       → call_says b m (later_of c m x) x (with-cache (steps_in b m (later_of c m x) x)) ≡ bare_call b m x
-  call-alone (Translate kind va) h = ap (call_says b m [] (Translate kind va)) h
-  call-alone (DataPa va) h = ap (call_says b m [] (DataPa va)) h
-  call-alone (FetchPa va) h = ap (call_says b m [] (FetchPa va)) h
-  call-alone (Load va size) h = ap (call_says b m [] (Load va size)) h ∙ load-alone (width_of size) b m va
-  call-alone (Store va size value) h = ap (call_says b m [] (Store va size value)) h ∙ store-alone (width_of size) b m va value
-  call-alone (Fetch va) h = ap (call_says b m [] (Fetch va)) h
-  call-alone (System e) h = sys-alone (op_in b e) e h
-  call-alone _ h = refl
+  call-alone x h1 = search (rules, load-alone, store-alone, sys-alone)
 
   pub alone-same : (x : Call) → with-cache (events_in b m (later_in c m x) x) ≡ without (events_in b m (later_in c m x) x) → outcome_of c m x ≡ bare_reply b m x
-  alone-same x h = reply-is c m x ∙ go (ruling_in b m x) h
-    where
-      go : (v : Ruling)
-          → with-cache (if_allowed v (steps_in b m (if_allowed v (later_of c m x) []) x) (steps m idle ∷ []))
-          ≡ without (if_allowed v (steps_in b m (if_allowed v (later_of c m x) []) x) (steps m idle ∷ []))
-          → if_allowed v
-          (call_says b m (if_allowed v (later_of c m x) []) x
-          (with-cache (if_allowed v (steps_in b m (if_allowed v (later_of c m x) []) x) (steps m idle ∷ []))))
-          (outcome (refusal_of v) m.bytes)
-          ≡ if_allowed v (bare_call b m x) (outcome (refusal_of v) m.bytes)
-      go allowed k = call-alone x k
-      go _ k = refl
+  alone-same x h = search (rules, reply-is, call-alone)

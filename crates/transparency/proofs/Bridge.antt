@@ -1,12 +1,11 @@
 -- Each call does to registers, level, mark and `Tlb` what its steps do.
-use Rattle.std.specs.Prelude.{if◌then◌else◌, ◌≡◌, refl, Bool, true, false, ◌||◌, ℕ, zero, suc, ◌+◌, ◌%◌, ◌≤◌, ◌<◌, leb, ltb, length, Option, Ok, Err, Some, None}
-use Rattle.std.proofs.Common.{ap, ◌∙◌, mod-eq_of_lt, arith, leb-false, ltb-false}
+use Rattle.std.specs.Prelude.{if◌then◌else◌, ◌≡◌, refl, Bool, true, false, ◌||◌, ℕ, zero, suc, ◌+◌, ◌%◌, ◌≤◌, ltb, length, Option, Some, None}
+use Rattle.std.proofs.Common.{ap, arith, ltb-false}
 use mathlib.Core.List.{List, [], ◌∷◌}
-use Rattle.word.specs.Bits.{align_down, wrap}
+use Rattle.word.specs.Bits.{wrap}
 use Rattle.word.specs.Ram.{width_of, bytes_in}
 use Rattle.tlb.specs.declared.access.Kind.{Kind}
 use Rattle.system.specs.declared.decode.SysOp.{SysOp}
-use Rattle.system.specs.declared.decode.SysOp.TheVariants as Op
 use Rattle.cpu.specs.Bare.{Bare, with_privilege, bare_of, with_regs}
 use Rattle.cpu.specs.Core.{reg_of, set_reg, after_access}
 use Rattle.cpu.specs.Memory.{write_of}
@@ -15,29 +14,25 @@ use Rattle.cpu.proofs.OpLaws as Proved
 use Rattle.cpu.specs.declared.Core.{Core}
 use Rattle.system.specs.declared.decode.Encoding.{Encoding}
 use Rattle.cpu.specs.declared.call.Call.{Call}
-use Rattle.cpu.specs.Answers.{StoreAnswer}
 use Rattle.cpu.specs.Fit.{refit_of}
 use Rattle.cpu.specs.Registers.{with_regs as coreRegs, applied_of, registered, after_register_write, with_privilege as coreWho, set_level, set_mark, abort_of}
-use Rattle.cpu.specs.System.{with_par as corePar, at_of, invalidated_of, tlbi_core, on_stored, done_with, zero_of, sys_by, sys_of}
+use Rattle.cpu.specs.System.{with_par as corePar, at_of, invalidated_of, tlbi_core, zero_of, sys_by, sys_of}
 use Rattle.cpu.specs.Check.{missed_of}
 use Rattle.cpu.proofs.EveryCallEnds.{all-passed}
 use Rattle.cpu.specs.Step.{ends, load_by, store_by, run_of, refused_or, step_of}
 use Rattle.cpu.specs.declared.call.Call.TheVariants.{Translate, DataPa, FetchPa, Load, Store, Fetch, System, Register, Level, Mark}
 use Rattle.cpu.specs.declared.call.Reply.TheVariants.{Refused}
-use Rattle.history.specs.World.{Plain}
 use Rattle.history.specs.History.{writes, Event, steps, plain_run, tlb_asks, tlb_run}
 use Rattle.history.specs.Calls.{Bridge}
 use Rattle.history.specs.Instance.{Ram, real}
 use Rattle.transparency.specs.Bare.{missed_in, op_in, operand_in, written_in, number, by_sys, by_write, ruled_in, if_allowed, sys_does, bare_does}
-use Rattle.transparency.specs.Events.{plain_in}
+use Rattle.transparency.specs.Events.{plain_in, does, asking, idle, setting, zero_steps, sys_steps, steps_in, events_in, tlbi_event}
 use Rattle.transparency.specs.Bare.{bare_step}
-use Rattle.transparency.specs.Events.{does, asking, idle, set_by, setting, zero_steps, sys_steps, steps_in, events_in, tlbi_event}
 use Rattle.transparency.specs.Claim.{access_in, sized_in}
 use Rattle.transparency.specs.Starts.{ram_zeroed, zero_later, sys_later, later_of, later_in}
 use Rattle.transparency.specs.Machine.{machine}
 use Rattle.word.specs.declared.ram.Width.{Width}
 use Rattle.sysreg.specs.Write.{WriteAnswer, Written}
-use Rattle.sysreg.specs.declared.write.WriteError.TheVariants.{Undefined, NoRegister}
 use Rattle.cpu.specs.Results.{Stored}
 
 -- The core d that a call made of c, the state b without a cache after it, and the call's events.
@@ -68,10 +63,6 @@ store-fits c m va None = fits-idle c m
 
 -- ZEROING
 
-zero-plain : (b : Bare) (p : Plain real) (m : Ram) (l : List Ram) (va : ℕ) → p ≡ plain_run real p (zero_steps b m l va)
-zero-plain b p m [] va = refl
-zero-plain b p m (n ∷ l) va = zero-plain b p n l (wrap (va + 8))
-
 -- a store leaves the state without a cache, and of the cache what its translations leave
 pub stored-bare : (c : Core) (m : Ram) (va : ℕ) → bare_of (write_of c m.base m.bytes va 8).core ≡ bare_of c
 stored-bare c m va = Proved.kept c m.base m.bytes (Laws.store va 8 0)
@@ -88,38 +79,13 @@ module _ (c : Core) (m : Ram) (va : ℕ) where
   abbrev ZeroFits : ℕ → Core → Ram → ℕ → Type 0
   ZeroFits n d k a = Fits d (zero_of (suc n) d k.base k.bytes a).core (bare_of d) (zero_steps (bare_of d) k (zero_later n d k a) a)
 
-  one-fits : Fits c stored.core (bare_of c) (zero_steps (bare_of c) m [] va)
-  one-fits = record { bare = stored-bare c m va; plain = refl; tlb = stored-tlb c m va }
-
   zero-last : ZeroFits zero c m va
   unfolding zero_of
-  zero-last = go stored.answer
-    where
-      go : (a : StoreAnswer) → Fits c (on_stored a (done_with stored.core) stored).core (bare_of c) (zero_steps (bare_of c) m [] va)
-      go (Ok x) = one-fits
-      go (Err s) = one-fits
+  zero-last = grind (arith, stored-bare, stored-tlb)
 
   zero-next : (n : ℕ) → ZeroFits n stored.core (ram_zeroed c m va) (wrap (va + 8)) → ZeroFits (suc n) c m va
   unfolding zero_of write_of after_access
-  zero-next n rest = go stored.answer
-    where
-      more : Stored
-      more = zero_of (suc n) stored.core m.base (ram_zeroed c m va).bytes (wrap (va + 8))
-
-      later : List Ram
-      later = zero_later n stored.core (ram_zeroed c m va) (wrap (va + 8))
-
-      go : (a : StoreAnswer)
-          → Fits c (on_stored a more stored).core (bare_of c) (zero_steps (bare_of c) m (on_stored a (ram_zeroed c m va ∷ later) []) va)
-      go (Ok x) =
-          record {
-            bare = rest.bare;
-            plain = zero-plain (bare_of c) (plain_in (bare_of c)) m (ram_zeroed c m va ∷ later) va;
-            tlb =
-                rest.tlb
-                ∙ ap (tlb_run real (plain_in (bare_of c)) (zero_steps (bare_of c) (ram_zeroed c m va) later (wrap (va + 8)))) (stored-tlb c m va);
-          }
-      go (Err s) = one-fits
+  zero-next n rest = grind (arith, stored-tlb, stored-bare)
 
 zero-fits : (n : ℕ) (c : Core) (m : Ram) (va : ℕ)
     → Fits c (zero_of (suc n) c m.base m.bytes va).core (bare_of c) (zero_steps (bare_of c) m (zero_later n c m va) va)
@@ -134,10 +100,7 @@ sys-fits : (o : SysOp) (c : Core) (m : Ram) (e : Encoding)
     (if_allowed (by_sys o) (sys_does o (bare_of c) m (operand_in (bare_of c) e)) (bare_of c))
     (if_allowed (by_sys o) (sys_steps o (bare_of c) m (if_allowed (by_sys o) (sys_later o c m (operand_in (bare_of c) e)) []) e) (steps m idle ∷ []))
 unfolding at_of corePar tlbi_core invalidated_of after_access
-sys-fits (Op.At form) c m e = record { bare = refl; plain = refl; tlb = refl }
-sys-fits Op.Tlbi c m e = record { bare = refl; plain = refl; tlb = refl }
-sys-fits Op.Zva c m e = zero-fits 7 c m (align_down (operand_in (bare_of c) e) 6)
-sys-fits _ c m e = fits-idle c m
+sys-fits o c m e = grind (arith, zero-fits, fits-idle)
 
 -- REGISTER WRITES
 
@@ -145,21 +108,13 @@ write-fits : (c : Core) (m : Ram) (w : Written) (a : WriteAnswer)
     → Fits c (registered c w a).core (if_allowed (by_write a) (with_regs (bare_of c) w.control w.sys) (bare_of c))
     (if_allowed (by_write a) (steps m (does (writes w.control)) ∷ []) (steps m idle ∷ []))
 unfolding applied_of coreRegs after_access refit_of
-write-fits c m w (Ok tt) =
-    record { bare = refl; plain = refl; tlb = refl }
-write-fits c m w (Err Undefined) = fits-idle c m
-write-fits c m w (Err NoRegister) = fits-idle c m
+write-fits c m w a = grind arith
 
 -- SETTINGS
 
 setting-fits : (c : Core) (m : Ram) (level : ℕ) (mark : Bool) → level ≤ 3
     → Fits c (coreWho c level mark) (with_privilege (bare_of c) level mark) (steps m (setting (record { level = level; unprivileged = mark })) ∷ [])
-setting-fits c m level mark low = go (leb level 3) refl
-  where
-    go : (b : Bool) (e : leb level 3 ≡ b)
-        → Fits c (coreWho c level mark) (with_privilege (bare_of c) level mark) (steps m (does (set_by (record { level = level; unprivileged = mark }) b e)) ∷ [])
-    go true e = record { bare = refl; plain = refl; tlb = refl }
-    go false e = let h : 3 < level = leb-false level 3 e in absurd (omega arith)
+setting-fits c m level mark low = grind arith
 
 -- where no check is missed the level is 3 at most, the one asked for too
 level-low : (level base len requested : ℕ) → missed_of level base len (Level requested) ≡ 0 → requested ≤ 3
@@ -176,9 +131,7 @@ level-fits : (c : Core) (m : Ram) (level : ℕ) → level ≤ 3
     → Fits c (set_level c (level % 4)) (with_privilege (bare_of c) level c.privilege.unprivileged)
     (steps m (setting (record { level = level; unprivileged = c.privilege.unprivileged })) ∷ [])
 unfolding set_level
-level-fits c m level low =
-    let q : level % 4 ≡ level = mod-eq_of_lt (omega arith) in
-    rw q (setting-fits c m level c.privilege.unprivileged low)
+level-fits c m level low = grind arith
 
 -- EVERY CALL
 

@@ -2,8 +2,8 @@
 -- DC ZVA leaves 64 zero bytes at the translation of the aligned address and every other byte as it was. The laws are
 -- the core's, of cores that are well-formed; `read_of`, `write_of`, `ram_after_write`, `sys_of` and `sys_ram` are what
 -- `step_of` and `ram_after` make of a call that misses no check.
+use Rattle.std.proofs.Common.{rules, sym, ap, ◌∙◌, arith}
 use Rattle.std.specs.Prelude.{◌≡◌, refl, false, slice_index, Err, List, [], ◌∷◌, ◌++◌, ℕ, ◌+◌, ◌^◌, ◌≤◌, ◌<◌, Ok}
-use Rattle.std.proofs.Common.{sym, ap, ◌∙◌, arith}
 use borrow.Author.Tests.{le-ltb}
 use Rattle.std.proofs.Math.ListN.{length}
 use Rattle.walk.proofs.TagLaws.{untagged-plus}
@@ -37,11 +37,11 @@ use Rattle.history.proofs.EveryReply.{run-one, bare-one, shown-one}
 use Rattle.history.specs.Instance.{Ram, real}
 use Rattle.history.specs.Window.{memory_of}
 use Rattle.history.proofs.Instance.{real-laws}
-use Rattle.transparency.specs.Bare.{missed_in, Ruling, allowed, ruling_in, if_allowed, bare_step}
+use Rattle.transparency.specs.Bare.{missed_in, bare_step}
 use Rattle.transparency.specs.Events.{plain_in}
 use Rattle.transparency.specs.Machine.{machine}
 use Rattle.transparency.proofs.Beside.{two-cores}
-use Rattle.transparency.specs.Direct.{core_now, bare_now, past, SettledAt}
+use Rattle.transparency.specs.Direct.{core_now, bare_now, SettledAt}
 use Rattle.transparency.proofs.Direct.{begins, one-ask}
 use Rattle.transparency.proofs.ModelCalls.{every-core-well}
 use Rattle.transparency.specs.Bytes as Statement
@@ -50,9 +50,7 @@ use Rattle.transparency.specs.Bytes as Statement
 
 module _ (list : List (Fed real machine)) (seen : Shown real machine fresh_core list) (m : Ram) where
   off-here : World.on_now real (plain_in (bare_now list)) ≡ false → (va : ℕ) → SettledAt list m va
-  off-here off va =
-      off-settled real real-laws (plain_in fresh_bare) (past list) m (World.regime_now real (plain_in (bare_now list))) _
-      (ap (λ (p : World.Plain real). real.on p.regs (World.regime_now real (plain_in (bare_now list)))) (begins list seen m) ∙ off)
+  off-here off va = grind (arith, off-settled, real-laws, begins)
 
   pub flat-after : Statement.flat_after list m
   unfolding translate_of stepped_now translate_in
@@ -61,21 +59,13 @@ module _ (list : List (Fed real machine)) (seen : Shown real machine fresh_core 
   -- a translation after the list is a call that misses no check
   passed : (m.base + length m.bytes ≤ 2 ^ 64) → (kind : Kind) (va : ℕ) → missed_in (bare_of (core_now list)) m (Translate kind va) ≡ 0
   unfolding missed_of
-  passed room kind va =
-      rw (
-        le-ltb (2 ^ 64) (m.base + length m.bytes) room,
-        le-ltb 3 (core_now list).privilege.level (every-core-well (lent_of real machine list)).level,
-      )
+  passed room kind va = grind (arith, le-ltb, length, every-core-well)
 
 -- EACH BYTE
 
 -- a translation leaves the state without a cache
 unmoved : (b : Bare) (m : Ram) (kind : Kind) (va : ℕ) → bare_step b m (Translate kind va) ≡ b
-unmoved b m kind va = go (ruling_in b m (Translate kind va))
-  where
-    go : (v : Ruling) → if_allowed v b b ≡ b
-    go allowed = refl
-    go _ = refl
+unmoved b m kind va = grind arith
 
 -- what a law of bytes asks of the core, the window and the access
 pub ready-after : (list : List (Fed real machine)) (seen : Shown real machine fresh_core list) (m : Ram) (va n : ℕ) (kind : Kind)
@@ -133,21 +123,18 @@ load-byte-after list seen m va n v i small few near room bytes e h =
 -- after a store that is done, the byte of RAM at the translation of byte i's own address is byte i of the value; of two
 -- bytes at one place the later
 pub store-byte-after : Statement.store_byte_after
-store-byte-after list seen m va n v i small few near room e h =
-    store_byte (core_now list) m.base m.bytes va n v i (ready-after list seen m va n Write small few near room) e h
+store-byte-after list seen m va n v i small few near room e h = search (rules, store_byte, ready-after)
 
 -- and every byte that is at the translation of none of its bytes' own addresses stays
 pub store-others-after : Statement.store_others_after
-store-others-after list seen m va n v k small few near room h none =
-    store-others (core_now list) m.base m.bytes va n v k (ready-after list seen m va n Write small few near room) h none
+store-others-after list seen m va n v k small few near room h none = search (rules, store-others, ready-after)
 
 -- with stage 1 off an access lies whole from its first byte's translation on
 on-same : (list : List (Fed real machine)) → World.on_now real (plain_in (bare_now list)) ≡ on_now (core_now list)
 on-same list = ap (λ (b : Bare). World.on_now real (plain_in b)) (sym (two-cores (lent_of real machine list)))
 
 pub flat-load-after : Statement.flat_load_after
-flat-load-after list seen m va n pa off room bytes e inside =
-    load-flat (core_now list) m.base m.bytes va n pa (sym (on-same list) ∙ off) room bytes e inside
+flat-load-after list seen m va n pa off room bytes e inside = grind (arith, load-flat, two-cores)
 
 pub flat-store-after : Statement.flat_store_after
 flat-store-after list seen m va n v pa off room e inside =
@@ -163,8 +150,7 @@ module _ (c : Core) (base : ℕ) (ram : List ℕ) (va n v k : ℕ) (off : on_now
 
   placing : (a : Answer) → first_answer ≡ a → Placing (placed_one va a)
   unfolding translate_of stepped_now located_now located_of after_access
-  placing (Ok pa) e = rw (off, e)
-  placing (Err f) e = rw (off, e)
+  placing a h1 = grind arith
 
   flat-leaves : ((i pa : ℕ) → i < n → first_answer ≡ Ok pa → pa + i ≡ base + k → ⊥)
       → slice_index (ram_after_write c base ram va n v) k ≡ slice_index ram k
@@ -177,10 +163,8 @@ module _ (c : Core) (base : ℕ) (ram : List ℕ) (va n v k : ℕ) (off : on_now
       go (Err f) e place p i l q = let z : ◌≡◌ {A = ℕ} 0 1 = cc in absurd (omega arith)
 
 pub flat-others-after : Statement.flat_others_after
-flat-others-after list seen m va n v k off none =
-    flat-leaves (core_now list) m.base m.bytes va n v k (sym (on-same list) ∙ off) none
+flat-others-after list seen m va n v k off none = grind (arith, flat-leaves, on-same)
 
 -- DC ZVA that is done
 pub zva-after : Statement.zva_after
-zva-after list seen m op1 crn crm op2 rt small named e =
-    zva-zeroes (core_now list) m.base m.bytes op1 crn crm op2 rt (every-core-well (lent_of real machine list)).cache small named e
+zva-after list seen m op1 crn crm op2 rt small named e = grind (arith, zva-zeroes, every-core-well)

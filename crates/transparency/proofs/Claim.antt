@@ -1,16 +1,13 @@
 -- The claim for every history, from the theorem about every list of calls: its premise is that of the theory of
 -- histories, and its core without a cache answers the same.
-use Rattle.std.specs.Prelude.{◌≡◌, refl, Bool, true, false, not, ◌&&◌, List, [], ◌∷◌, ◌++◌, ◌⊎◌, ℕ, ◌/◌, ◌%◌, ◌^◌, ◌==◌, None, Ok}
-use Rattle.std.proofs.Common.{sym, ap, subst, ◌∙◌, arith, append-nil, eqb-true, true≢false}
-use Rattle.std.proofs.lemmas.Bool.{eqb-false}
+use Rattle.std.proofs.Common.{rules, sym, ap, subst, ◌∙◌, arith, append-nil}
+use Rattle.std.specs.Prelude.{◌≡◌, refl, true, false, List, [], ◌∷◌, ◌++◌, ◌⊎◌, ℕ, None, Ok}
 use Rattle.walk.specs.declared.{level.Leaf.Leaf}
 use Rattle.sysreg.specs.declared.regs.Regime.{Regime}
 use Rattle.tlb.specs.Asks.{Ask, Given, kind_of, address_of}
 use Rattle.tlb.specs.Lists.{Each}
 use Rattle.tlb.proofs.Lists.{each-imp}
-use Rattle.tlb.specs.Model.{span_bits}
 use Rattle.tlb.specs.declared.{access.Kind.Kind, Inval.Inval}
-use Rattle.tlb.specs.declared.Inval.TheVariants.{All, Page, Asid}
 use Rattle.cpu.specs.Bare.{Bare, fresh_bare, bare_of}
 use Rattle.cpu.specs.Core.{fresh_core}
 use Rattle.cpu.specs.declared.Core.{Core}
@@ -21,17 +18,15 @@ use Rattle.history.specs.History as History
 use Rattle.history.specs.Calls.{run, lent_of}
 use Rattle.history.specs.Instance.{Ram, real}
 use Rattle.transparency.specs.Bare.{bare_step}
-use Rattle.transparency.specs.Events.{plain_in}
-use Rattle.transparency.specs.Events.{events_in}
+use Rattle.transparency.specs.Events.{plain_in, events_in}
 use Rattle.transparency.specs.Machine.{machine}
 use Rattle.transparency.specs.Steps.{Step, core_run, bare_run, zeroed}
-use Rattle.transparency.specs.Claim.{asked, answers_of, drops_run, Covers, Settled}
-use Rattle.transparency.specs.Claim.{uncached, SettledFor, FaithfulAt, every_list}
+use Rattle.transparency.specs.Claim.{asked, answers_of, drops_run, Covers, Settled, uncached, SettledFor, FaithfulAt, every_list}
 use Rattle.transparency.specs.Premise.{feed, feeds, SettledInTheory, same_premise}
 use Rattle.transparency.specs.Replies.{outcome_of, bare_reply, every_step_replies}
 use Rattle.transparency.specs.Starts.{later_in}
-use Rattle.history.specs.Invisible.{Tidy, answers_run}
-use Rattle.transparency.specs.Says.{says_in, answered_step}
+use Rattle.history.specs.Invisible.{Tidy}
+use Rattle.transparency.specs.Says.{answered_step}
 use Rattle.transparency.proofs.Answered.{reply-is}
 use Rattle.transparency.proofs.Instance.{every-translation, every-reply}
 use Rattle.transparency.proofs.StepEvents.{events, later-none, core-same, bare-same, shown-feeds, made, plain-many, drops-many, events-append}
@@ -41,24 +36,11 @@ use Rattle.transparency.proofs.Steps.{Apart, apart-left, apart-right, both-run, 
 
 not-covered : (v : Inval) (p : ℕ) (ℓ : Leaf) (a : ℕ) → covers v p ℓ a ≡ false → Covers v p ℓ a → ⊥
 unfolding covers
-not-covered All p ℓ a e h = true≢false e
-not-covered (Page n) p ℓ a e h = eqb-false _ _ e h
-not-covered (Asid b) p ℓ a e h = let q : (a == b) ≡ false = rw h.0 at e in eqb-false a b q h.1
+not-covered v p ℓ a h1 h2 = grind arith
 
 uncovered-is : (v : Inval) (p : ℕ) (ℓ : Leaf) (a : ℕ) → (Covers v p ℓ a → ⊥) → covers v p ℓ a ≡ false
 unfolding covers
-uncovered-is All p ℓ a h = absurd (h tt)
-uncovered-is (Page n) p ℓ a h = go (p % 2 ^ 44 / 2 ^ span_bits ℓ.level == n % 2 ^ 44 / 2 ^ span_bits ℓ.level) refl
-  where
-    go : (x : Bool) → (p % 2 ^ 44 / 2 ^ span_bits ℓ.level == n % 2 ^ 44 / 2 ^ span_bits ℓ.level) ≡ x → x ≡ false
-    go true e = absurd (h (eqb-true _ _ e))
-    go false e = refl
-uncovered-is (Asid b) p ℓ a h = go ℓ.global (a == b) refl refl
-  where
-    go : (g x : Bool) → ℓ.global ≡ g → (a == b) ≡ x → (not g && x) ≡ false
-    go true x eg ex = refl
-    go false true eg ex = absurd (h (eg, eqb-true a b ex))
-    go false false eg ex = refl
+uncovered-is v p ℓ a h1 = grind arith
 
 -- THE PREMISE
 
@@ -216,8 +198,7 @@ module _ (before : List Step) (s : Step) (a : Apart fresh_bare before) (z : zero
   done = (made b s z).done
 
   fed : [] ≡ later_in (run real machine fresh_core (lent_of real machine (feeds before))) s.ram s.call
-  fed =
-      sym (later-none _ s.ram s.call (subst (λ (x : Bare). zeroed x s.ram s.call ≡ None) (sym (ap bare_of (core-same fresh_core before) ∙ both)) z))
+  fed = grind (arith, later-none, core-same, both)
 
   from-theory : Each (Says (plain_in b) (events fresh_bare before ++ [])) (answers real (plain_in b) s.ram done.asks c.tlb)
   unfolding fresh_core
@@ -254,14 +235,7 @@ every-list list before s later split =
 -- REPLIES
 
 pub answered-step : answered_step
-answered-step c s z =
-    let b = bare_of c in
-    let o = made b s z in
-    reply-is c s.ram s.call
-    ∙ ap (λ (ms : List Ram). says_in b s.ram ms s.call (answers_run real (plain_in b) (events_in b s.ram ms s.call) c.tlb)) (later-none c s.ram s.call z)
-    ∙ ap (λ (es : List (Event real)). says_in b s.ram [] s.call (answers_run real (plain_in b) es c.tlb)) o.is
-    ∙ ap (says_in b s.ram [] s.call) (append-nil (answers real (plain_in b) s.ram o.done.asks c.tlb))
-    ∙ ap (λ (l : List Ask). says_in b s.ram [] s.call (answers real (plain_in b) s.ram l c.tlb)) o.asks
+answered-step c s z = search (rules, made, reply-is, later-none, append-nil)
 
 module _ (before : List Step) (s : Step) (a : Apart fresh_bare before) (z : zeroed (bare_run fresh_bare before) s.ram s.call ≡ None) where
   abbrev here : Bare

@@ -1,14 +1,14 @@
 -- What the plain model says of the core's own counters and of what is pending, call by call, after every list of calls
 -- from the fresh core: as docs/SCOPE.md asks it ("Wrong cores").
+use Rattle.std.proofs.Common.{arith, ◌∙◌}
 use Rattle.std.specs.Prelude.{◌≡◌, Bool, List, [], ◌∷◌, ℕ, Ok}
-use Rattle.std.proofs.Math.Path.{refl, sym, ap}
-use Rattle.std.proofs.Common.{◌∙◌}
-use Rattle.std.proofs.Math.Bool.{true, false}
+use Rattle.std.proofs.Math.Path.{sym, ap}
+use Rattle.std.proofs.Math.Bool.{true}
 use Rattle.std.proofs.Math.Dec.{eqb}
 use borrow.Author.Tests.{eq-eqb, ne_eqb}
 use Rattle.sysreg.specs.Shape.{asid_of}
 use Rattle.sysreg.specs.declared.regs.Control.{Control}
-use Rattle.tlb.specs.Model.{Slot, Counters, Model, one_flush, one_epoch, inval_counted, invalidate, retag, joined, broadcast}
+use Rattle.tlb.specs.Model.{Model, inval_counted, invalidate, retag, broadcast}
 use Rattle.tlb.specs.Counting.{how_counted}
 use Rattle.tlb.proofs.Counting.{translate-counts, fetch-counts}
 use Rattle.tlb.specs.Live.{counters_of, pending_of, live}
@@ -21,16 +21,13 @@ use Rattle.cpu.specs.Bare.{Bare}
 use Rattle.system.specs.declared.decode.Encoding.{Encoding}
 use Rattle.cpu.specs.declared.call.Call.{Call}
 use Rattle.cpu.specs.declared.call.Call.TheVariants.{Translate, DataPa, FetchPa, Fetch, System, Register}
-use Rattle.history.specs.World.{access_of}
 use Rattle.history.specs.History.{carries, writes, Event, steps}
 use Rattle.history.specs.ModelRun.{model_ask, model_after, model_flushed, model_retagged, model_run}
 use Rattle.history.specs.Calls.{Lent}
 use Rattle.history.specs.Instance.{Ram, real}
 use Rattle.transparency.specs.Bare.{missed_in, op_in, written_in}
-use Rattle.transparency.specs.Events.{plain_in}
+use Rattle.transparency.specs.Events.{plain_in, does, asking, inval_in, shared_in}
 use Rattle.transparency.proofs.Bridge.{tlbi-event}
-use Rattle.transparency.specs.Events.{does, asking, inval_in, shared_in}
-use Rattle.transparency.specs.Starts.{later_in}
 use Rattle.transparency.specs.Machine.{machine}
 use Rattle.transparency.specs.Beside.{core_after, bare_after}
 use Rattle.transparency.proofs.Beside.{two-cores}
@@ -66,15 +63,11 @@ module _ (list : List (Lent real machine)) (m : Ram) where
   -- TRANSLATIONS
 
   translation-counts : (a : Ask) → (model_ask real (plain_in (bare_after list)) m a model).after.counts ≡ how_counted (how_answered list m a) level model.counts
-  translation-counts (translates kind va) = translate-counts (access_of real (plain_in (bare_after list)) m kind va) model
-  translation-counts (fetches va) = fetch-counts (access_of real (plain_in (bare_after list)) m Kind.Fetch va) model
+  translation-counts a = grind (arith, translate-counts, fetch-counts)
 
   one-counted : (x : Call) (a : Ask) → events_after list m x ≡ steps m (asking (a ∷ [])) ∷ []
       → counters_of (tlb_after_call list m x) ≡ how_counted (how_answered list m a) level (counters_of now)
-  one-counted x a e =
-      ap (λ (u : Model). u.counts) (one-step x (steps m (asking (a ∷ [])) ∷ []) e ∙ onward-same (model_ask real (plain_in (bare_after list)) m a model).answer _)
-      ∙ translation-counts a
-      ∙ ap (how_counted (how_answered list m a) level) model-counts
+  one-counted x a e = grind (arith, one-step, onward-same, translation-counts, model-counts)
 
   -- One that a line of the model answers counts one in `hits` of the core's level, one that is walked one in `walks` of
   -- it, whether it faults or not; a hint, and the address itself with stage 1 off, count nothing.
@@ -103,14 +96,11 @@ module _ (list : List (Lent real machine)) (m : Ram) where
     carried shared = model_after real (carries what shared) (plain_in (bare_after list)) model
 
     tlbi-model : live then ≡ carried (shared_in e)
-    tlbi-model =
-        one-step (System e) (steps m (does (carries what (shared_in e))) ∷ [])
-        (tlbi-event (bare_after list) m (later_in (core_after list) m (System e)) e passed named)
+    tlbi-model = grind (arith, one-step, tlbi-event)
 
     carried-counts : (shared : Bool) → (carried shared).counts ≡ inval_counted what model.counts
     unfolding invalidate broadcast
-    carried-counts true = refl
-    carried-counts false = refl
+    carried-counts shared = grind arith
 
     -- it counts what it names, once, whether it is an Inner Shareable form or not
     pub tlbi-counted : Statement.tlbi_counted list m e passed named
@@ -135,8 +125,7 @@ module _ (list : List (Lent real machine)) (m : Ram) where
     -- form, whose CRm is 3
     pub shared-pending : Statement.shared_pending list m e passed named
     unfolding invalidate broadcast
-    shared-pending q =
-        ap (λ (u : Model). u.pending) (tlbi-model ∙ ap carried (eq-eqb e.crm 3 q)) ∙ ap (λ (p : Slot Inval). joined p what) model-pending
+    shared-pending q = grind (arith, tlbi-model, eq-eqb, model-pending)
 
     -- every other form leaves what is pending
     pub own-pending : Statement.own_pending list m e passed named
@@ -150,9 +139,6 @@ module _ (list : List (Lent real machine)) (m : Ram) where
       (done : (written_in (bare_after list) key value).answer ≡ Ok tt) where
     abbrev registers : Control
     registers = (written_in (bare_after list) key value).control
-
-    abbrev written : Tlb
-    written = tlb_after_call list m (Register key value)
 
     pub write-modelled : Statement.write_modelled list m key value passed done
     write-modelled = one-step (Register key value) (steps m (does (writes registers)) ∷ []) (rw (passed, done))
@@ -174,13 +160,9 @@ module _ (list : List (Lent real machine)) (m : Ram) where
     -- `shaping` alone: a flush, one in `flushes` and one in `epoch`
     pub write-flushes : Statement.write_flushes list m key value passed done
     unfolding model_retagged model_flushed invalidate
-    write-flushes shape asid =
-        let same : eqb model.asid (asid_of registers) ≡ true = eq-eqb _ _ (asid-now ∙ sym asid) in
-        ap (λ (u : Model). u.counts) write-modelled ∙ rw (shape, same) (ap (λ (k : Counters). one_epoch (one_flush k)) model-counts)
+    write-flushes shape asid = grind (arith, eqb, eq-eqb, asid-now, write-modelled, model-counts)
 
     -- the ASID alone: a retag, one in `epoch`
     pub write-retags : Statement.write_retags list m key value passed done
     unfolding model_retagged model_flushed retag
-    write-retags shape differs =
-        let other : eqb model.asid (asid_of registers) ≡ false = ne_eqb _ _ (λ q. differs (sym q ∙ asid-now)) in
-        ap (λ (u : Model). u.counts) write-modelled ∙ rw (shape, other) (ap one_epoch model-counts)
+    write-retags shape differs = grind (arith, eqb, ne_eqb, asid-now, write-modelled, model-counts)

@@ -1,28 +1,28 @@
 -- Faithfulness of each call that translates, read off `step_of` itself: where the pages meet the premise it has the same
 -- physical address, the same fault with its status and address, and the same bytes as on the core without a cache.
-use Rattle.std.specs.Prelude.{if◌then◌else◌, ◌≡◌, Bool, true, false, List, [], ◌∷◌, ℕ, Ok, Err}
+use Rattle.std.specs.Prelude.{if◌then◌else◌, ◌≡◌, Bool, List, [], ◌∷◌, ℕ}
 use Rattle.std.proofs.Math.Path.{refl, sym, ap}
 use Rattle.std.proofs.Common.{ap₂, subst, ◌∙◌, append-nil, arith}
 use Rattle.word.specs.Bits.{align_down}
 use Rattle.word.specs.Ram.{bytes_in}
 use Rattle.tlb.specs.Lists.{Each, done, more}
 use Rattle.tlb.specs.Tlb.{fresh}
-use Rattle.tlb.specs.Asks.{Ask, translates, fetches, kind_of, address_of, Given, onward}
+use Rattle.tlb.specs.Asks.{Ask, translates, fetches, kind_of, address_of}
 use Rattle.tlb.specs.declared.{access.Kind.Kind, Tlb.Tlb}
 use Rattle.tlb.specs.Answers.{Answer}
 use Rattle.cpu.specs.Answers.{Placed}
 use Rattle.cpu.specs.Bare.{Bare, fresh_bare, bare_of}
 use Rattle.cpu.specs.Core.{fresh_core}
-use Rattle.cpu.specs.Place.{next_page, crosses, placed_one, placed_both}
+use Rattle.cpu.specs.Place.{next_page, placed_one, placed_both}
 use Rattle.cpu.specs.Translations.{translate_in, translate_fetch_in}
 use Rattle.cpu.specs.Asks.{asks_by, first_of, placed_from}
-use Rattle.cpu.specs.Ends.{reached_by, load_end, store_end, store_ram_end, fetch_end}
+use Rattle.cpu.specs.Ends.{reached_by, store_end, store_ram_end, fetch_end}
 use Rattle.cpu.specs.Memory.{stepped_now, fetch_stepped_now, translate_of, fetch_pa_of, data_pa_of, fetch_of}
 use Rattle.cpu.specs.OpLaws.{placed_by}
-use Rattle.cpu.specs.Replies.{translation, reaching, loading, storing, fetching}
+use Rattle.cpu.specs.Replies.{translation, reaching, storing, fetching}
 use Rattle.cpu.specs.Step.{run_of, ram_of, step_of, ram_after}
 use Rattle.cpu.specs.declared.call.Call.TheVariants.{System}
-use Rattle.history.specs.World.{Plain, regime_now, page_now, on_now}
+use Rattle.history.specs.World.{Plain, regime_now, page_now}
 use Rattle.history.specs.History.{nothing, plain_run, tlb_run, answer_of, answers, Settled}
 use Rattle.history.specs.Invisible.{plain_answers, Tidy}
 use Rattle.history.proofs.Corollaries.{all_settled}
@@ -31,8 +31,7 @@ use Rattle.history.proofs.EveryCall.{now-plain, fresh-run}
 use Rattle.history.specs.Instance.{Ram, real}
 use Rattle.history.proofs.Instance.{real-laws, fresh-asid}
 use Rattle.transparency.specs.Bare.{operand_in}
-use Rattle.transparency.specs.Events.{plain_in}
-use Rattle.transparency.specs.Events.{zero_steps, events_in}
+use Rattle.transparency.specs.Events.{plain_in, zero_steps, events_in}
 use Rattle.transparency.specs.Claim.{access_in}
 use Rattle.transparency.specs.Replies.{Outcome, bare_zero, bare_reply}
 use Rattle.transparency.specs.Starts.{later_in}
@@ -94,31 +93,12 @@ module _ (list : List (Fed real machine)) (seen : Shown real machine fresh_core 
   placed-plain : (c : Bool) (va : ℕ) (kind : Kind)
       → placed_from va (plain_answers real (plain_in (bare_now list)) m (asks_by c va kind))
       ≡ (if c then placed_both va (uncached_at list m kind va) (uncached_at list m kind (next_page va)) else placed_one va (uncached_at list m kind va))
-  placed-plain true va kind = go (uncached_at list m kind va)
-    where
-      second : Given
-      second = record { ask = translates kind (next_page va); answer = uncached_at list m kind (next_page va) }
-
-      go : (x : Answer)
-          → placed_from va
-          (record { ask = translates kind va; answer = x }
-          ∷ onward x (second ∷ onward {A = List Given} second.answer [] []) [])
-          ≡ placed_both va x (uncached_at list m kind (next_page va))
-      go (Ok pa) = refl
-      go (Err f) = refl
-  placed-plain false va kind = go (uncached_at list m kind va)
-    where
-      go : (x : Answer) → placed_from va (record { ask = translates kind va; answer = x } ∷ onward {A = List Given} x [] []) ≡ placed_one va x
-      go (Ok pa) = refl
-      go (Err f) = refl
+  placed-plain c va kind = grind arith
 
   -- where an access lies
   given-placed : (va n : ℕ) (kind : Kind) → SettledOver list m va n kind
       → placed_from va (answers real (plain_in (bare_of (core_now list))) m (access_in (bare_of (core_now list)) va n kind) (core_now list).tlb) ≡ placed_at list m va n kind
-  given-placed va n kind ss =
-      ap (λ (b : Bare). placed_from va (answers real (plain_in (bare_of (core_now list))) m (access_in b va n kind) (core_now list).tlb)) (two-cores (lent_of real machine list))
-      ∙ ap (placed_from va) (given-after (access_in (bare_now list) va n kind) ss)
-      ∙ placed-plain (crosses (on_now real (plain_in (bare_now list))) va n) va kind
+  given-placed va n kind ss = grind (arith, two-cores, given-after, placed-plain)
 
   -- the same physical addresses, or the same fault
   pub access-after : Statement.access_after list m
@@ -127,10 +107,7 @@ module _ (list : List (Fed real machine)) (seen : Shown real machine fresh_core 
   -- A load replies the bytes there, or the fault or the abort.
   pub load-after : Statement.load_after list m
   unfolding step_of run_of
-  load-after va size w sized passed ss =
-      rw (passed, sized)
-      (ap (λ (o : Outcome). o.reply) (load-answered (core_now list) m va (bytes_in w))
-      ∙ ap (λ (p : Placed). loading (load_end p 0 0 m.base m.bytes va (bytes_in w)).answer) (given-placed va (bytes_in w) Kind.Read ss))
+  load-after va size w sized passed ss = grind (arith, load-answered, given-placed)
 
   -- A store replies the same, and leaves the same bytes.
   pub store-after : Statement.store_after list m

@@ -1,10 +1,10 @@
 -- Faithfulness as a promise of one call: what the second clause of its contract says.
+use Rattle.std.proofs.Common.{arith, sym, ap, ◌∙◌}
 use Rattle.std.specs.Prelude.{◌≡◌}
-use Rattle.std.proofs.Common.{sym, ap, ◌∙◌}
 use Rattle.std.proofs.Math.Path.{subst}
 use mathlib.Core.List.{List, ◌∷◌, ◌++◌}
 use Rattle.tlb.specs.Lists.{Each}
-use Rattle.cpu.specs.Bare.{Bare, fresh_bare}
+use Rattle.cpu.specs.Bare.{fresh_bare}
 use Rattle.cpu.specs.Core.{fresh_core}
 use Rattle.cpu.specs.declared.call.Call.{Call}
 use Rattle.history.specs.History.{Step, Event, steps}
@@ -13,8 +13,7 @@ use Rattle.history.proofs.Lists.{answers-split}
 use Rattle.history.specs.Calls.{Lent, Fed, lent_of, events_run, showing, FaithfulIn}
 use Rattle.history.proofs.EveryCall.{shown-lent, shown-shown}
 use Rattle.history.specs.Instance.{Ram, window_of, real}
-use Rattle.transparency.specs.Events.{plain_in}
-use Rattle.transparency.specs.Events.{events_in}
+use Rattle.transparency.specs.Events.{plain_in, events_in}
 use Rattle.transparency.specs.Starts.{later_in}
 use Rattle.transparency.specs.Machine.{machine}
 use Rattle.transparency.specs.Replies.{outcome, outcome_of, bare_reply}
@@ -41,12 +40,7 @@ module _ (list : List (Lent real machine)) (m : Ram) (x : Call) where
   fed-events = ap (λ (l : List (Lent real machine)). events_in (bare_after l) m fed.later x) lents
 
   pub said : outcome_of (core_after list) m x ≡ says_in (bare_after list) m (later_in (core_after list) m x) x (answers_after list m x)
-  said =
-      subst
-      (λ (b : Bare).
-      outcome_of (core_after list) m x
-      ≡ says_in b m (later_in (core_after list) m x) x (answers_run real (plain_in b) (events_in b m (later_in (core_after list) m x) x) (core_after list).tlb))
-      (two-cores list) (reply-is (core_after list) m x)
+  said = grind (arith, two-cores, reply-is)
 
   fed-answers : (before : List (Event real)) (m' : Ram) (s : Step real) (later : List (Event real))
       → events_after list m x ≡ before ++ steps m' s ∷ later

@@ -2,7 +2,7 @@
 -- byte of the access.
 use Rattle.std.specs.Prelude.{if◌then◌else◌, ◌≡◌, Bool, true, false, ◌⊎◌, ℕ, zero, suc, ◌+◌, ◌%◌, ◌^◌, ◌≤◌, ◌<◌, length, Option, Some, None, Ok, Err}
 use Rattle.std.proofs.Math.Path.{refl, ap, subst⁻¹}
-use Rattle.std.proofs.Common.{sym, subst, ◌∙◌, inl, inr, arith, add-zero, ltb-true}
+use Rattle.std.proofs.Common.{sym, subst, ◌∙◌, inl, inr, arith, add-zero}
 use mathlib.Core.List.{List, [], ◌∷◌, ◌++◌, append-nil, Memᴰ}
 use Rattle.std.proofs.Math.Nat.{mod-mod}
 use Rattle.word.specs.Bits.{align_down, wrap}
@@ -24,7 +24,6 @@ use Rattle.cpu.specs.Asks.{asks_by, placed_from}
 use Rattle.cpu.specs.Ends.{reached_by, failed_access, loaded_from, load_end, store_end_by, store_end, fetched_from, fetch_end}
 use Rattle.cpu.specs.declared.{place.Pages.Pages, place.Place.Place, place.FaultAt.FaultAt}
 use Rattle.cpu.specs.declared.call.Call.{Call}
-use Rattle.cpu.specs.declared.place.Place.TheVariants.{Whole, Split}
 use Rattle.system.specs.declared.decode.SysOp.{SysOp}
 use Rattle.system.specs.declared.decode.SysOp.TheVariants as Op
 use Rattle.cpu.specs.Replies.{translation, loading, storing, fetching, reaching}
@@ -36,8 +35,7 @@ use Rattle.history.specs.Calls.{Lent, lent_of}
 use Rattle.history.specs.Instance.{Ram, real}
 use Rattle.history.specs.Judgement.{Row}
 use Rattle.transparency.specs.Bare.{op_in, operand_in, Ruling, allowed, ruling_in, refusal_of, if_allowed}
-use Rattle.transparency.specs.Events.{plain_in}
-use Rattle.transparency.specs.Events.{idle, zero_steps, sys_steps, steps_in, events_in}
+use Rattle.transparency.specs.Events.{plain_in, idle, zero_steps, sys_steps, steps_in, events_in}
 use Rattle.transparency.specs.Claim.{access_in, sized_in}
 use Rattle.transparency.specs.Replies.{Outcome, outcome, load_says, store_says, load_by_size, store_by_size}
 use Rattle.transparency.specs.Says.{zero_says, sys_says, call_says, says_in}
@@ -67,12 +65,7 @@ first-outside base len p i (suc n) j pa e = go (within base len 1 (byte_at p i))
 
 byte_low : (base len : ℕ) (place : Place) (n j pa : ℕ) → 0 < n → verdict_of base len place n ≡ Err (outside_at j pa) → j < n
 unfolding verdict_of
-byte_low base len (Whole q) n j pa some e = go (within base len n q) e
-  where
-    go : (b : Bool) → ◌≡◌ {A = Verdict} (if b then Ok tt else Err (outside_at 0 q)) (Err (outside_at j pa)) → j < n
-    go true f = let z : ◌≡◌ {A = ℕ} 0 1 = cc in absurd (omega arith)
-    go false f = let h : 0 ≡ j = (same-outside _ _ _ _ f).0 in omega arith
-byte_low base len (Split p) n j pa some e = let h : j < 0 + n = first-outside base len p 0 n j pa e in omega arith
+byte_low base len place n j pa h1 h2 = grind (arith, same-outside, first-outside)
 
 -- AN ACCESS of n bytes: a fault is that of one of its translations, and a place begins where the first was allowed, as does the first page where the
 -- second faults
@@ -145,8 +138,7 @@ module _ (va n : ℕ) (kind : Kind) where
 -- WHAT AN ACCESS REPLIES
 
 some_bytes : (w : Width) → (0 < bytes_in w) × (bytes_in w ≤ 8)
-some_bytes Width.Byte = (omega arith, omega arith)
-some_bytes _ = (omega arith, omega arith)
+some_bytes w = grind arith
 
 module _ (m : Ram) (va n : ℕ) (some : 0 < n) (few : n ≤ 8) (gs : List Given) (from : PlacedFrom va n gs) (addr : ℕ) (fault : Fault) where
   -- a byte outside
@@ -219,8 +211,7 @@ placed-nil : (va n : ℕ) (gs : List Given) → PlacedFrom va n gs → PlacedFro
 placed-nil va n gs s = subst (PlacedFrom va n) (sym (append-nil gs)) s
 
 near : (on : Bool) (va n : ℕ) → crosses on va n ≡ true → in_page va < n
-near true va n e = ltb-true _ _ e
-near false va n e = let z : ◌≡◌ {A = ℕ} 0 1 = cc in absurd (omega arith)
+near on va n h1 = grind arith
 
 zero-from : (b : Bare) (m : Ram) (ms : List Ram) (va : ℕ) (t : Tlb) (addr : ℕ) (fault : Fault) → va % 8 ≡ 0
     → RepliesFault (zero_says m ms va (answers_run real (plain_in b) (zero_steps b m ms va) t)).reply addr fault
@@ -268,8 +259,7 @@ module _ (b : Bare) (m : Ram) (t : Tlb) (addr : ℕ) (fault : Fault) where
   translate-from a (Err f) w l = translating _ (Memᴰ.head refl) w.0 (ap Err w.1)
 
   reach-from : (x : Answer) → RepliesFault (reaching (reached_by x)) addr fault → ⊥
-  reach-from (Ok pa) w = w
-  reach-from (Err f) w = w
+  reach-from x h1 = grind arith
 
   fetch-from : (va : ℕ) (x : Answer) → RepliesFault (fetching (fetch_end x 0 m.base m.bytes va).answer) addr fault → (l : List Given)
       → FaultFrom (record { ask = fetches va; answer = x } ∷ l) addr fault

@@ -2,7 +2,7 @@
 -- and each fault that it meets is a row of docs/SCOPE.md's table.
 use Rattle.std.specs.Prelude.{◌≡◌, List, [], ◌∷◌, ◌++◌}
 use Rattle.std.proofs.Math.Path.{refl}
-use Rattle.std.proofs.Common.{ap₂, subst, arith}
+use Rattle.std.proofs.Common.{subst, arith}
 use Rattle.tlb.specs.Lists.{Each, done, more}
 use Rattle.tlb.specs.Asks.{Given}
 use Rattle.tlb.specs.declared.Tlb.{Tlb}
@@ -43,8 +43,7 @@ module _ (list : List (Fed real machine)) (seen : Shown real machine fresh_core 
   one_more : (before : List (Event real)) (x : Event real) (es : List (Event real))
       → answers_run real (plain_run real p (before ++ x ∷ [])) es (tlb_run real p (before ++ x ∷ []) t)
       ≡ answers_run real (after_event real x (plain_run real p before)) es (tlb_event real x (plain_run real p before) (tlb_run real p before t))
-  one_more before x es =
-      ap₂ (λ (q : Plain real) (u : Tlb). answers_run real q es u) (plain-append real p before (x ∷ [])) (tlb-append real p before (x ∷ []) t)
+  one_more before x es = grind (arith, plain-append, tlb-append)
 
   each_row : (past : List (Event real)) (m : Ram) (l : List Given) → Each (λ g. Judged past m g.ask g.answer) l → Each RowGiven l
   each_row past m [] done = done

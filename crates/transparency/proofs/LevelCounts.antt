@@ -2,9 +2,8 @@
 -- the access, which `unprivileged` does not lower. Their sums, wrapped at 2^64, are the Rust's two counters. Which translations a list made, at which
 -- level, and how each was answered is read from the plain model, on the events of the list (Events.antt; RAM at a zeroing's
 -- later stores as the run shows it: Starts.antt).
-use Rattle.std.specs.Prelude.{◌≡◌, refl, true, List, [], ◌∷◌, ℕ, ◌+◌, ◌%◌, ◌^◌, ◌<◌}
+use Rattle.std.specs.Prelude.{◌≡◌, true, List, [], ◌∷◌, ℕ, ◌+◌, ◌%◌, ◌^◌, ◌<◌}
 use Rattle.std.proofs.Common.{sym, ap, subst, ◌∙◌, arith}
-use Rattle.std.proofs.lemmas.Bool.{false≢true}
 use Rattle.word.specs.Bits.{align_down, wrap}
 use Rattle.word.specs.Ram.{width_of}
 use Rattle.tlb.specs.Asks.{translates, fetches}
@@ -29,8 +28,7 @@ use Rattle.history.specs.ModelRun.{model_event}
 use Rattle.history.specs.Tallies.{Made, by_line, by_walk, how_many, at, rust_after, made_run}
 use Rattle.history.proofs.Tallies.{each_append, made-level, run-hits, run-walks, run-sums, run-other}
 use Rattle.transparency.specs.Bare.{op_in, operand_in, Ruling, allowed, ruling_in, if_allowed}
-use Rattle.transparency.specs.Events.{plain_in}
-use Rattle.transparency.specs.Events.{asking, idle, zero_steps, sys_steps, steps_in, events_in}
+use Rattle.transparency.specs.Events.{plain_in, asking, idle, zero_steps, sys_steps, steps_in, events_in}
 use Rattle.transparency.specs.Claim.{access_in, sized_in}
 use Rattle.transparency.specs.Starts.{later_in}
 use Rattle.transparency.specs.Machine.{machine}
@@ -160,35 +158,13 @@ module _ (list : List (Lent real machine)) (m : Ram) (x : Call) where
       ∙ ap (λ (k : Counters). rust_after (made_after list m x) (sums k)) (sym counts-before)
 
 module _ (b : Bare) (m : Ram) (ms : List Ram) (u : Model) where
-  sys-none : (op : SysOp) (e : Encoding) → quiet_op op ≡ true → made_run real (plain_in b) (sys_steps op b m ms e) u ≡ []
-  sys-none Op.Zva e q = absurd (false≢true q)
-  sys-none _ e q = refl
-
-  steps-none : (x : Call) → translates_nothing b x ≡ true → made_run real (plain_in b) (steps_in b m ms x) u ≡ []
-  steps-none (Translate kind va) q = absurd (false≢true q)
-  steps-none (DataPa va) q = absurd (false≢true q)
-  steps-none (FetchPa va) q = absurd (false≢true q)
-  steps-none (Load va size) q = absurd (false≢true q)
-  steps-none (Store va size value) q = absurd (false≢true q)
-  steps-none (Fetch va) q = absurd (false≢true q)
-  steps-none (System e) q = sys-none (op_in b e) e q
-  steps-none _ q = refl
-
   pub events-none : (x : Call) → translates_nothing b x ≡ true → made_run real (plain_in b) (events_in b m ms x) u ≡ []
-  events-none x q = go (ruling_in b m x)
-    where
-      go : (r : Ruling) → made_run real (plain_in b) (if_allowed r (steps_in b m ms x) (steps m idle ∷ [])) u ≡ []
-      go allowed = steps-none x q
-      go _ = refl
+  events-none x q = grind arith
 
 -- a refused call makes none either
 pub refused_none : (b : Bare) (m : Ram) (ms : List Ram) (u : Model) (x : Call) → (ruling_in b m x ≡ allowed → ⊥)
     → made_run real (plain_in b) (events_in b m ms x) u ≡ []
-refused_none b m ms u x not = go (ruling_in b m x) refl
-  where
-    go : (r : Ruling) → ruling_in b m x ≡ r → made_run real (plain_in b) (if_allowed r (steps_in b m ms x) (steps m idle ∷ [])) u ≡ []
-    go allowed e = absurd (not e)
-    go _ e = refl
+refused_none b m ms u x not = grind arith
 
 pub refused-stays : Statement.refused_stays
 refused-stays list m x not l =

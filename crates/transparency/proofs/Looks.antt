@@ -1,6 +1,6 @@
 -- Calls that only look, a census and windows, after every list of calls.
 use Rattle.std.specs.Prelude.{◌≡◌, true, List, [], ◌∷◌, ◌++◌}
-use Rattle.std.proofs.Common.{ap, ◌∙◌, arith}
+use Rattle.std.proofs.Common.{ap, arith}
 use Rattle.cpu.specs.Bare.{Bare, fresh_bare, bare_of}
 use Rattle.cpu.specs.Core.{fresh_core}
 use Rattle.cpu.specs.Inspect.{looks}
@@ -13,7 +13,6 @@ use Rattle.history.specs.Instance.{Ram, real}
 use Rattle.transparency.specs.Bare.{bare_step}
 use Rattle.transparency.specs.Replies.{bare_reply}
 use Rattle.transparency.specs.Machine.{machine}
-use Rattle.transparency.specs.Beside.{core_after}
 use Rattle.transparency.proofs.Beside.{two-cores}
 use Rattle.transparency.specs.Looks.{look_reply, look_skipped}
 
@@ -24,8 +23,7 @@ unfolding step_of run_of
 reply-bare c m x h = grind arith
 
 pub look-reply : look_reply
-look-reply list m x h =
-    reply-bare (core_after list) m x h ∙ ap (λ (b : Bare). (bare_reply b m x).reply) (two-cores list)
+look-reply list m x h = grind (arith, reply-bare, two-cores)
 
 -- A list with such a call in it leaves what it leaves without.
 bare-stays : (b : Bare) (m : Ram) (x : Call) → looks x ≡ true → bare_step b m x ≡ b

@@ -3,19 +3,15 @@
 -- counters and what it leaves pending are the model's. The model is that of tlb/specs/Model.antt, its run over steps
 -- that of history/specs/ModelRun.antt; the steps are read from the state without a cache and RAM at each step, as the
 -- run shows it (Starts.antt).
+use Rattle.std.proofs.Common.{rules, arith}
 use Rattle.std.specs.Prelude.{◌≡◌, ◌≤◌, length}
 use Rattle.std.proofs.Math.Path.{refl, subst}
-use Rattle.std.proofs.Common.{sym, ap, ◌∙◌, arith}
 use mathlib.Core.List.{List}
-use Rattle.sysreg.specs.Shape.{asid_of}
 use Rattle.tlb.specs.Tlb.{fresh}
-use Rattle.tlb.specs.Model.{Model}
-use Rattle.tlb.specs.Live.{live, WellFormed}
-use Rattle.tlb.specs.declared.Tlb.{Tlb}
+use Rattle.tlb.specs.Live.{live}
 use Rattle.cpu.specs.Bare.{Bare, fresh_bare, bare_of}
 use Rattle.cpu.specs.Core.{fresh_core}
 use Rattle.cpu.specs.declared.call.Call.{Call}
-use Rattle.history.specs.World.{Plain}
 use Rattle.history.specs.History.{plain_run, tlb_run}
 use Rattle.history.proofs.Lists.{run-low}
 use Rattle.history.proofs.Theorem.{history-asid, history-well}
@@ -26,7 +22,6 @@ use Rattle.history.proofs.EveryCall.{shown-lent, shown-shown, run-plain, run-tlb
 use Rattle.history.specs.Instance.{Ram, real}
 use Rattle.history.proofs.Instance.{real-laws, fresh-asid}
 use Rattle.transparency.specs.Events.{plain_in}
-use Rattle.transparency.specs.Events.{events_in}
 use Rattle.transparency.specs.Replies.{outcome_of}
 use Rattle.transparency.specs.Says.{says_in}
 use Rattle.transparency.specs.Starts.{later_in}
@@ -56,38 +51,24 @@ module _ (list : List (Lent real machine)) where
   fresh-low = omega arith
 
   pub every-list-modelled : StandsFor (core_after list).tlb (model_after_list list)
-  every-list-modelled =
-      subst (λ (t : Tlb). StandsFor t (model_after_list list)) (sym tlb-run)
-      (run-stands real real-laws (events_by list) (plain_in fresh_bare) fresh-low (fresh-stands real real-laws))
+  every-list-modelled = search (rules, tlb-run, run-stands, real-laws, fresh-low, fresh-stands)
 
 -- EVERY CORE THAT CALLS REACH: its level is 3 at most, its cache is well-formed, and the cache's ASID is that of the
 -- registers.
 
 pub every-core-well : Statement.every_core_well
 every-core-well list =
-    record {
-      level = subst (λ (p : Plain real). p.privilege.level ≤ 3) (sym (plain-run list)) (run-low real (events_by list) (plain_in fresh_bare) (fresh-low list));
-      cache = subst WellFormed (sym (tlb-run list)) (history-well real real-laws (plain_in fresh_bare) fresh-asid (fresh-low list) (events_by list));
-      asid =
-          ap (λ (t : Tlb). t.asid) (tlb-run list)
-          ∙ history-asid real real-laws (plain_in fresh_bare) fresh-asid (fresh-low list) (events_by list)
-          ∙ ap (λ (p : Plain real). asid_of p.regs) (sym (plain-run list));
-    }
+    grind (arith, plain-run, run-low, fresh-low, tlb-run, history-well, real-laws, fresh-asid, history-asid)
 
 module _ (list : List (Lent real machine)) (m : Ram) (x : Call) where
   pub low-now : (plain_in (bare_after list)).privilege.level ≤ 3
   low-now = subst (λ (b : Bare). b.privilege.level ≤ 3) (two-cores list) (every-core-well list).level
 
   tlb-then : tlb_after_call list m x ≡ tlb_run real (plain_in (bare_after list)) (events_after list m x) (core_after list).tlb
-  tlb-then =
-      subst
-      (λ (b : Bare). tlb_after_call list m x ≡ tlb_run real (plain_in b) (events_in b m (later_in (core_after list) m x) x) (core_after list).tlb)
-      (two-cores list) (fits (core_after list) m x).tlb
+  tlb-then = grind (arith, two-cores, fits)
 
   stands-then : StandsFor (tlb_after_call list m x) (model_after_call list m x)
-  stands-then =
-      subst (λ (t : Tlb). StandsFor t (model_after_call list m x)) (sym tlb-then)
-      (run-stands real real-laws (events_after list m x) (plain_in (bare_after list)) low-now (every-list-modelled list))
+  stands-then = search (rules, tlb-then, run-stands, real-laws, low-now, every-list-modelled)
 
   model-then : live (tlb_after_call list m x) ≡ model_after_call list m x
   model-then = stands-then.is
@@ -100,15 +81,7 @@ module _ (list : List (Lent real machine)) (m : Ram) (x : Call) where
   said-then = (faithful-step (core_after list) m.base m.bytes x _ _ refl refl list refl).answered
 
   pub every-call-modelled : Modelled list m x
-  every-call-modelled =
-      record {
-        before = (every-list-modelled list).is;
-        answers = answers-then;
-        reply = said-then ∙ ap (says_in (bare_after list) m (later_in (core_after list) m x) x) answers-then;
-        after = model-then;
-        counts = ap (λ (u : Model). u.counts) model-then;
-        pending = ap (λ (u : Model). u.pending) model-then;
-      }
+  every-call-modelled = grind (arith, every-list-modelled, answers-then, said-then, model-then)
 
   -- the counters are of four levels
   pub levels-after : length (tlb_after_call list m x).levels ≡ 4

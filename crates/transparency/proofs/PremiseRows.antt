@@ -1,6 +1,6 @@
 -- The premise in numbers: each row is computed.
+use Rattle.std.proofs.Common.{arith, true≢false}
 use Rattle.std.specs.Prelude.{refl, false, [], ◌∷◌}
-use Rattle.std.proofs.Common.{true≢false}
 use Rattle.std.proofs.lemmas.Bool.{eqb-false}
 use Rattle.sysreg.specs.Regs.{fresh_control, fresh_sys}
 use Rattle.sysreg.specs.Encoding.{banked_at, register_at}
@@ -62,9 +62,4 @@ unfolding zeros fresh_control fresh_sys banked_at register_at control_with sys_w
 write-rows = (taken All _ tt, taken All _ tt, done, done)
 
 pub equal-rows : Statement.equal_rows
-equal-rows = (
-  record { pages = refl; perms = refl; levels = refl },
-  λ e. eqb-false _ _ refl e.pages,
-  λ e. eqb-false _ _ refl e.perms,
-  λ e. eqb-false _ _ refl e.levels,
-)
+equal-rows = grind arith

@@ -1,18 +1,14 @@
 -- A step of a list, one that zeroes nothing, as the theory of histories has it: an event, and what it asks, invalidates
 -- and leaves.
-use Rattle.std.specs.Prelude.{◌≡◌, refl, Bool, true, false, List, [], ◌∷◌, ◌++◌, ℕ, leb, Option, None}
-use Rattle.std.proofs.Common.{sym, ap, ap₂, subst, ◌∙◌, arith, append_assoc}
-use Rattle.system.specs.declared.decode.SysOp.{SysOp}
-use Rattle.system.specs.declared.decode.SysOp.TheVariants as Op
+use Rattle.std.proofs.Common.{rules, sym, ap, ap₂, subst, ◌∙◌, arith, append_assoc}
+use Rattle.std.specs.Prelude.{◌≡◌, refl, List, [], ◌∷◌, ◌++◌, ℕ, Option, None}
 use Rattle.tlb.specs.Asks.{Ask}
 use Rattle.tlb.specs.Tlb.{fresh}
-use Rattle.tlb.specs.declared.{access.Privilege.Privilege, Inval.Inval}
+use Rattle.tlb.specs.declared.{Inval.Inval}
 use Rattle.cpu.specs.Bare.{Bare, bare_of, core_from}
 use Rattle.cpu.specs.declared.Core.{Core}
-use Rattle.system.specs.declared.decode.Encoding.{Encoding}
 use Rattle.cpu.specs.declared.{call.Call.Call}
-use Rattle.cpu.specs.declared.call.Call.TheVariants.{Load, Store, System, Register, Level, Mark, General}
-use Rattle.cpu.specs.declared.call.Call.TheVariants.{Abort, Census, Windows}
+use Rattle.cpu.specs.declared.call.Call.TheVariants.{System}
 use Rattle.history.specs.World.{Plain}
 use Rattle.history.specs.History.{carries, Event, steps, after, plain_run, drops}
 use Rattle.history.specs.History as History
@@ -20,13 +16,12 @@ use Rattle.history.proofs.Lists.{plain-append}
 use Rattle.history.specs.Calls.{run, lent_of, events_run, Shown}
 use Rattle.history.specs.Calls as Calls
 use Rattle.history.specs.Instance.{Ram, real}
-use Rattle.transparency.specs.Bare.{Ruling, allowed, op_in, operand_in, ruling_in, if_allowed, bare_step}
-use Rattle.transparency.specs.Events.{plain_in}
-use Rattle.transparency.specs.Events.{does, asking, idle, set_by, abort_step, inval_in, shared_in, sys_steps, steps_in, events_in}
-use Rattle.transparency.specs.Starts.{sys_later, later_in}
+use Rattle.transparency.specs.Bare.{Ruling, op_in, operand_in, ruling_in, if_allowed, bare_step}
+use Rattle.transparency.specs.Events.{plain_in, idle, steps_in, events_in}
+use Rattle.transparency.specs.Starts.{later_in}
 use Rattle.transparency.specs.Machine.{machine}
 use Rattle.transparency.specs.Steps.{Step, core_run, bare_run, zeroing, zeroed}
-use Rattle.transparency.specs.Claim.{asks_of, asked, tlbi_drops, drops_of, drops_run}
+use Rattle.transparency.specs.Claim.{asks_of, asked, drops_of, drops_run}
 use Rattle.transparency.specs.Premise.{feeds}
 use Rattle.transparency.proofs.Bridge.{bridge}
 use Rattle.transparency.proofs.Steps.{Apart}
@@ -41,59 +36,19 @@ record One (b : Bare) (m : Ram) (es : List (Event real)) (qs : List Ask) (ds : L
   dropped : drops real done.effect (plain_in b) ≡ ds
 
 module _ (b : Bare) (m : Ram) where
-  quiet : One b m (steps m idle ∷ []) [] []
-  quiet = record { done = idle; is = refl; asks = refl; dropped = refl }
-
-  asks-only : (l : List Ask) → One b m (steps m (asking l) ∷ []) l []
-  asks-only l = record { done = asking l; is = refl; asks = refl; dropped = refl }
-
-  set-only : (p : Privilege) (v : Bool) (e : leb p.level 3 ≡ v) → One b m (steps m (does (set_by p v e)) ∷ []) [] []
-  set-only p true e = record { done = does (set_by p true e); is = refl; asks = refl; dropped = refl }
-  set-only p false e = quiet
-
-  one-sys : (v : Ruling) (o : SysOp) (e : Encoding) → zeroing v o (operand_in b e) ≡ None
-      → One b m (if_allowed v (sys_steps o b m [] e) (steps m idle ∷ [])) (if_allowed v [] []) (if_allowed v (tlbi_drops o b e) [])
-  one-sys allowed Op.Zva e z = absurd (let y : ◌≡◌ {A = ℕ} 0 1 = cc in omega arith)
-  one-sys allowed Op.Tlbi e z = record { done = does (carries (inval_in b e) (shared_in e)); is = refl; asks = refl; dropped = refl }
-  one-sys allowed _ e z = quiet
-  one-sys _ o e z = quiet
-
   abbrev zeroed_by : Ruling → Call → Option ℕ
   zeroed_by v (System e) = zeroing v (op_in b e) (operand_in b e)
   zeroed_by v _ = None
 
   one-call : (v : Ruling) (x : Call) → zeroed_by v x ≡ None
       → One b m (if_allowed v (steps_in b m [] x) (steps m idle ∷ [])) (if_allowed v (asks_of b x) []) (if_allowed v (drops_of b x) [])
-  one-call v (System e) z = one-sys v (op_in b e) e z
-  one-call allowed (Register key value) z = record { done = _; is = refl; asks = refl; dropped = refl }
-  one-call allowed (Level level) z = set-only _ _ refl
-  one-call allowed (Mark mark) z = set-only _ _ refl
-  one-call allowed (Abort e) z = record { done = abort_step b e; is = refl; asks = refl; dropped = refl }
-  one-call allowed (General n value) z = quiet
-  one-call allowed (Census first pages) z = quiet
-  one-call allowed Windows z = quiet
-  one-call allowed (Load va size) z = asks-only _
-  one-call allowed (Store va size value) z = asks-only _
-  one-call allowed _ z = asks-only _
-  one-call _ x z = quiet
+  one-call v x h1 = search rules
 
   zeroed-is : (x : Call) → zeroed b m x ≡ None → zeroed_by (ruling_in b m x) x ≡ None
-  zeroed-is (System e) z = z
-  zeroed-is _ z = refl
-
--- a step that zeroes nothing has no later RAM
-later-sys : (v : Ruling) (o : SysOp) (c : Core) (m : Ram) (x : ℕ) → zeroing v o x ≡ None → if_allowed v (sys_later o c m x) [] ≡ []
-later-sys allowed Op.Zva c m x z = absurd (let y : ◌≡◌ {A = ℕ} 0 1 = cc in omega arith)
-later-sys allowed _ c m x z = refl
-later-sys _ o c m x z = refl
-
-if-same : (v : Ruling) → ◌≡◌ {A = List Ram} (if_allowed v [] []) []
-if-same allowed = refl
-if-same _ = refl
+  zeroed-is x h1 = grind arith
 
 pub later-none : (c : Core) (m : Ram) (x : Call) → zeroed (bare_of c) m x ≡ None → later_in c m x ≡ []
-later-none c m (System e) z = later-sys (ruling_in (bare_of c) m (System e)) (op_in (bare_of c) e) c m (operand_in (bare_of c) e) z
-later-none c m x z = if-same (ruling_in (bare_of c) m x)
+later-none c m x h1 = grind arith
 
 -- THE LIST, as the theory is fed it
 

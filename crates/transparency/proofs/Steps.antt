@@ -1,5 +1,5 @@
 -- The steps of a list: none of them zeroes, and they leave the core as the list's calls do.
-use Rattle.std.specs.Prelude.{◌≡◌, refl, Bool, true, false, List, [], ◌∷◌, ◌++◌, ℕ, zero, suc, ◌+◌, nat_lt, Option, Some, None, Ok, Err}
+use Rattle.std.specs.Prelude.{◌≡◌, refl, List, [], ◌∷◌, ◌++◌, ℕ, zero, suc, ◌+◌, Some, None, Ok, Err}
 use Rattle.std.proofs.Common.{sym, ap, ap₂, subst, ◌∙◌, arith}
 use Rattle.word.specs.Bits.{align_down, wrap}
 use Rattle.system.specs.declared.decode.SysOp.{SysOp}
@@ -11,19 +11,19 @@ use Rattle.cpu.specs.OpLaws as Laws
 use Rattle.cpu.proofs.OpLaws as Proved
 use Rattle.cpu.specs.declared.Core.{Core}
 use Rattle.cpu.specs.Answers.{StoreAnswer}
-use Rattle.cpu.specs.Check.{missed_of, first_of, unencoded}
+use Rattle.cpu.specs.Check.{missed_of}
 use Rattle.cpu.specs.Replies.{storing}
-use Rattle.cpu.specs.declared.{call.Call.Call, call.Reply.Reply}
+use Rattle.cpu.specs.declared.{call.Call.Call}
 use Rattle.system.specs.declared.decode.Encoding.{Encoding}
 use Rattle.cpu.specs.declared.call.Call.TheVariants.{Store, System}
 use Rattle.cpu.specs.declared.call.Reply.TheVariants.{Done, Refused}
 use Rattle.cpu.specs.System.{zero_of, zero_ram, on_stored, sys_of, sys_by, sys_ram, sys_ram_by}
 use Rattle.cpu.specs.Step.{Stepped, after_store, ends, refused_or, run_of, step_of, ram_of, ram_after}
 use Rattle.history.specs.Instance.{Ram, window_of}
-use Rattle.transparency.specs.Bare.{number, by_sys, missed_in, op_in, operand_in, bare_step}
+use Rattle.transparency.specs.Bare.{number, by_sys, missed_in, operand_in, bare_step}
 use Rattle.transparency.specs.Steps.{Step, core_run, bare_run, on_done, stores, zeroing, zeroed, parts_by, steps_run}
 use Rattle.transparency.specs.Claim.{steps_are_calls}
-use Rattle.transparency.specs.Replies.{Outcome, outcome, outcome_of, Follow, outcome_run, parts_follow, parts_end}
+use Rattle.transparency.specs.Replies.{Outcome, outcome, outcome_of, outcome_run, parts_follow, parts_end}
 use Rattle.transparency.proofs.Bridge.{bridge, stored-bare}
 
 -- NO STEP ZEROES
@@ -44,20 +44,8 @@ pub apart-right : (b : Bare) (l k : List Step) → Apart b (l ++ k) → Apart (b
 apart-right b [] k a = a
 apart-right b (s ∷ l) k a = apart-right (bare_step b s.ram s.call) l k a.1
 
-apart-on : (b : Bare) (r : Reply) (l : List Step) → Apart b l → Apart b (on_done r l [])
-apart-on b Done l a = a
-apart-on b _ l a = tt
-
-stores-apart : (n : ℕ) (c : Core) (m : Ram) (va : ℕ) (b : Bare) → Apart b (stores n c m va)
-stores-apart zero c m va b = tt
-stores-apart (suc n) c m va b = (refl, apart-on (bare_step b m (Store va 8 0)) _ _ (stores-apart n _ _ (wrap (va + 8)) _))
-
 parts-apart : (c : Core) (s : Step) → Apart (bare_of c) (parts_by (zeroed (bare_of c) s.ram s.call) c s)
-parts-apart c s = go (zeroed (bare_of c) s.ram s.call) refl
-  where
-    go : (z : Option ℕ) → zeroed (bare_of c) s.ram s.call ≡ z → Apart (bare_of c) (parts_by z c s)
-    go (Some va) e = stores-apart 8 c s.ram va (bare_of c)
-    go None e = (e, tt)
+parts-apart c s = grind arith
 
 -- THEY ARE THE CALLS
 
@@ -113,13 +101,7 @@ stores-are (suc n) c m va passed =
 -- a system operation that misses no check passes those of a store
 store-passed : (b : Bare) (m : Ram) (e : Encoding) (va : ℕ) → missed_in b m (System e) ≡ 0 → missed_in b m (Store va 8 0) ≡ 0
 unfolding missed_of
-store-passed b m e va p = go _ _ p
-  where
-    go : (x y : Bool) → first_of ((x, 1) ∷ (y, 2) ∷ (unencoded e, 4) ∷ (nat_lt 31 e.rt, 5) ∷ []) ≡ 0
-        → first_of ((x, 1) ∷ (y, 2) ∷ []) ≡ 0
-    go true y z = absurd (omega (arith, z))
-    go false true z = absurd (omega (arith, z))
-    go false false z = refl
+store-passed b m e va p = grind arith
 
 zva-is : (c : Core) (m : Ram) (e : Encoding) (n : ℕ) (o : SysOp) (va : ℕ) → missed_in (bare_of c) m (System e) ≡ n
     → zeroing (refused_or n number (by_sys o)) o (operand_in (bare_of c) e) ≡ Some va
@@ -134,15 +116,10 @@ zva-is c m e (suc n) o va p z = absurd (let y : ◌≡◌ {A = ℕ} 0 1 = cc in 
 
 zeroed-core : (c : Core) (m : Ram) (x : Call) (va : ℕ) → zeroed (bare_of c) m x ≡ Some va → core_run c (stores 8 c m va) ≡ (step_of c m.base m.bytes x).core
 unfolding step_of run_of sys_of reg_of
-zeroed-core c m (System e) va z = zva-is c m e (missed_in (bare_of c) m (System e)) (op_in (bare_of c) e) va refl z
-zeroed-core c m _ va z = absurd (let y : ◌≡◌ {A = ℕ} 0 1 = cc in omega arith)
+zeroed-core c m x va h1 = grind (arith, zva-is)
 
 parts-core : (c : Core) (s : Step) → core_run c (parts_by (zeroed (bare_of c) s.ram s.call) c s) ≡ (step_of c s.ram.base s.ram.bytes s.call).core
-parts-core c s = go (zeroed (bare_of c) s.ram s.call) refl
-  where
-    go : (z : Option ℕ) → zeroed (bare_of c) s.ram s.call ≡ z → core_run c (parts_by z c s) ≡ (step_of c s.ram.base s.ram.bytes s.call).core
-    go (Some va) e = zeroed-core c s.ram s.call va e
-    go None e = refl
+parts-core c s = grind (arith, zeroed-core)
 
 pub steps-core : (c : Core) (l : List Step) → core_run c (steps_run c l) ≡ core_run c l
 steps-core c [] = refl
@@ -164,20 +141,8 @@ steps-are-calls list = steps-core fresh_core list
 
 -- EACH BEGINS ON THE RAM THAT THE ONE BEFORE LEFT
 
-follow-on : (c : Core) (m : Ram) (r : Reply) (l : List Step) → Follow c m l → Follow c m (on_done r l [])
-follow-on c m Done l f = f
-follow-on c m _ l f = tt
-
-stores-follow : (n : ℕ) (c : Core) (m : Ram) (va : ℕ) → Follow c m (stores n c m va)
-stores-follow zero c m va = tt
-stores-follow (suc n) c m va = (refl, follow-on _ _ _ _ (stores-follow n _ _ (wrap (va + 8))))
-
 pub parts-follow : parts_follow
-parts-follow c s = go (zeroed (bare_of c) s.ram s.call)
-  where
-    go : (z : Option ℕ) → Follow c s.ram (parts_by z c s)
-    go (Some va) = stores-follow 8 c s.ram va
-    go None = (refl, tt)
+parts-follow c s = grind arith
 
 -- THE LAST REPLIES, AND LEAVES RAM, AS THE CALL
 
@@ -227,13 +192,7 @@ zva-ends c m e (suc n) o va p z = absurd (let y : ◌≡◌ {A = ℕ} 0 1 = cc i
 zeroed-end : (c : Core) (m : Ram) (x : Call) (va : ℕ) → zeroed (bare_of c) m x ≡ Some va
     → outcome_run c (outcome Done m.bytes) (stores 8 c m va) ≡ outcome_of c m x
 unfolding step_of run_of sys_of reg_of ram_after ram_of sys_ram
-zeroed-end c m (System e) va z = zva-ends c m e (missed_in (bare_of c) m (System e)) (op_in (bare_of c) e) va refl z
-zeroed-end c m _ va z = absurd (let y : ◌≡◌ {A = ℕ} 0 1 = cc in omega arith)
+zeroed-end c m x va h1 = grind (arith, zva-ends)
 
 pub parts-end : parts_end
-parts-end c s = go (zeroed (bare_of c) s.ram s.call) refl
-  where
-    go : (z : Option ℕ) → zeroed (bare_of c) s.ram s.call ≡ z
-        → outcome_run c (outcome Done s.ram.bytes) (parts_by z c s) ≡ outcome_of c s.ram s.call
-    go (Some va) e = zeroed-end c s.ram s.call va e
-    go None e = refl
+parts-end c s = grind (arith, zeroed-end)

@@ -22,9 +22,8 @@ use Rattle.tlb.specs.Maintenance.{invalidated_of, reshaped_of, retagged_of}
 use Rattle.tlb.specs.Lists.{Each}
 use Rattle.tlb.specs.Entry.{page_dropped}
 use Rattle.tlb.specs.Hint.{place_of}
-use Rattle.tlb.specs.Tlb.{blanks, no_hints, get_of, put_of}
+use Rattle.tlb.specs.Tlb.{blanks, no_hints, get_of, put_of, flush_of, drop_page_of, invalidate_of}
 use Rattle.tlb.specs.Count.{no_tallies}
-use Rattle.tlb.specs.Tlb.{flush_of, drop_page_of, invalidate_of}
 use Rattle.tlb.specs.Access.{judged}
 use Rattle.tlb.specs.Translate.{walked_in, miss_in}
 use Rattle.tlb.specs.Asks.{translates}
@@ -32,13 +31,13 @@ use Rattle.tlb.specs.declared.access.Kind.TheVariants.{Read}
 use Rattle.tlb.specs.declared.Inval.TheVariants.{Page}
 use Rattle.cpu.specs.Bare.{fresh_bare}
 use Rattle.cpu.specs.Core.{zeros, fresh_core, reg_of, set_reg, after_access}
-use Rattle.cpu.specs.Translations.{translate_in, translate_fetch_in}
-use Rattle.cpu.specs.Memory.{stepped_now, translate_of, fetch_stepped_now, fetch_pa_of}
+use Rattle.cpu.specs.Translations.{translate_in, translate_fetch_in, located_of}
+use Rattle.cpu.specs.Memory.{stepped_now, translate_of, fetch_stepped_now, fetch_pa_of, located_now, read_of, write_of, ram_after_write}
 use Rattle.system.specs.Decode.{named, decode_of}
 use Rattle.system.specs.Tlbi.{scope_of, what_of, tlbi_of}
 use Rattle.cpu.specs.Fit.{refit_of}
 use Rattle.cpu.specs.Registers.{with_regs, applied_of, after_register_write, set_level, set_mark}
-use Rattle.cpu.specs.System.{tlbi_core, sys_of}
+use Rattle.cpu.specs.System.{tlbi_core, sys_of, with_par, at_of, zero_of}
 use Rattle.cpu.specs.Check.{missed_of}
 use Rattle.cpu.specs.Replies.{translation}
 use Rattle.cpu.specs.Step.{run_of, step_of}
@@ -50,8 +49,7 @@ use Rattle.history.specs.StepByStep.{HoldsFrom}
 use Rattle.history.proofs.StepByStep.{steps-settled}
 use Rattle.history.proofs.EveryCall.{shown-shown}
 use Rattle.history.specs.Instance.{Ram, real}
-use Rattle.transparency.specs.Events.{plain_in}
-use Rattle.transparency.specs.Events.{does, asking, idle, setting}
+use Rattle.transparency.specs.Events.{plain_in, does, asking, idle, setting}
 use Rattle.transparency.specs.Machine.{machine}
 use Rattle.transparency.specs.Faithful.{fed_by}
 use Rattle.transparency.specs.Claim.{SettledFor}
@@ -66,9 +64,6 @@ use Rattle.cpu.specs.Bytes.{store_ram}
 use Rattle.cpu.specs.Work.{translate_work, access_work, zero_work, at_work, sys_work, run_work, step_work}
 use Rattle.walk.specs.Fetches.{fetches_from, fetches_range, fetches_of, fresh_reads}
 use Rattle.tlb.specs.Work.{needs_walk}
-use Rattle.cpu.specs.System.{with_par, at_of, zero_of}
-use Rattle.cpu.specs.Memory.{located_now, read_of, write_of, ram_after_write}
-use Rattle.cpu.specs.Translations.{located_of}
 
 abbrev block : ℕ → ℕ → Leaf
 block oa desc = record { oa = oa; desc = desc; perms = 0x3C; level = 1; global = true }

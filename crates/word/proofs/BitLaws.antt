@@ -1,7 +1,6 @@
 -- Laws of bit fields, each over the width: what proofs above cite in place of the arithmetic.
-use Rattle.std.specs.Prelude.{◌≡◌, ℕ, zero, suc, ◌+◌, ◌-◌, ◌*◌, ◌/◌, ◌%◌, ◌^◌, ◌<◌, ◌≤◌, max, Bool, true, false, ◌&&◌, ◌||◌, ◌==◌, bit_or, refl}
+use Rattle.std.specs.Prelude.{◌≡◌, ℕ, ◌+◌, ◌-◌, ◌*◌, ◌/◌, ◌%◌, ◌^◌, ◌<◌, ◌≤◌, max, Bool, true, ◌&&◌, ◌||◌, ◌==◌, bit_or}
 use Rattle.std.proofs.Common.{sym, ap, ◌∙◌, mod-eq_of_lt, mod-lt, add-sub_of_le, mul_assoc, arith, shr-shr, shr_lt, pow_pos, pow-add}
-use Rattle.std.proofs.lemmas.Bool.{false≢true}
 use Rattle.std.proofs.Math.Nat.{max-le, mul-add-div_right, mul-add-mod_self_right}
 use Rattle.std.proofs.Math.Arith.{digits_lt}
 use Rattle.std.proofs.lemmas.Nat.{or_shr}
@@ -16,8 +15,7 @@ place h = mod-eq_of_lt h
 
 -- a test of two parts that passes
 pub both : (a b : Bool) → (a && b) ≡ true → (a ≡ true) × (b ≡ true)
-both true b e = (refl, e)
-both false b e = absurd (false≢true e)
+both a b h1 = grind arith
 
 -- aligning goes down
 pub align-le : (x n : ℕ) → align_down x n ≤ x
@@ -37,13 +35,7 @@ cut-cut x {lo} {hi} h =
 
 -- a bit of two numbers joined is set where either's is
 max-bit : (a b : ℕ) → a < 2 → b < 2 → (max a b == 1) ≡ (a == 1 || b == 1)
-max-bit zero zero h k = refl
-max-bit zero (suc zero) h k = refl
-max-bit (suc zero) zero h k = refl
-max-bit (suc zero) (suc zero) h k = refl
-max-bit (suc (suc a)) b h k = absurd (omega arith)
-max-bit zero (suc (suc b)) h k = absurd (omega arith)
-max-bit (suc zero) (suc (suc b)) h k = absurd (omega arith)
+max-bit a b h1 h2 = grind arith
 
 low_bit : (a b : ℕ) → bit_or a b % 2 ≡ max (a % 2) (b % 2)
 low_bit a b = let h : max (a % 2) (b % 2) ≤ 1 = max-le (omega arith) (omega arith) in omega (arith, or_step a b)
@@ -75,9 +67,7 @@ join-small {x} {r} {k} {n} h a b =
 
 -- a number aligned by n is a multiple of every lower power
 align-split : (x : ℕ) {k n : ℕ} → k ≤ n → align_down x n ≡ x / 2 ^ n * 2 ^ (n - k) * 2 ^ k
-align-split x {k} {n} h =
-    let e : n - k + k ≡ n = omega arith in
-    ap (λ (m : ℕ). x / 2 ^ n * 2 ^ m) (sym e) ∙ ap (λ (m : ℕ). x / 2 ^ n * m) (pow-add 2 (n - k) k) ∙ sym (mul_assoc (x / 2 ^ n) (2 ^ (n - k)) (2 ^ k))
+align-split x {k} {n} h = grind (arith, pow-add, mul_assoc)
 
 -- x with its low n bits replaced by those of y: its bits from k up, k at most n
 pub join-above : (x y : ℕ) {k n : ℕ} → k ≤ n → (align_down x n + y % 2 ^ n) / 2 ^ k ≡ x / 2 ^ n * 2 ^ (n - k) + field y k (n - k)

@@ -7,10 +7,7 @@ use Rattle.word.specs.Ram.{little_endian}
 pub four-bytes : (ram : List ℕ) (at : ℕ) → little_endian ram 4 at
     ≡ slice_index ram at + slice_index ram (at + 1) * 256 + slice_index ram (at + 2) * 65536 + slice_index ram (at + 3) * 16777216
 unfolding little_endian
-four-bytes ram at =
-    let two : at + 1 + 1 ≡ at + 2 = omega arith in
-    let three : at + 2 + 1 ≡ at + 3 = omega arith in
-    rw (two, three) (omega arith)
+four-bytes ram at = grind arith
 
 pub rest-index : (ram : List ℕ) (at i j : ℕ) → j ≡ at + i → slice_index (take (length ram - at) (drop at ram)) i ≡ slice_index ram j
 rest-index ram at i j e = rw (take_rest ram at, get_or-drop at ram i 0, e)

@@ -1,11 +1,10 @@
 -- Laws of little-endian words and of stores, each over the width.
-use Rattle.std.specs.Prelude.{if◌then◌else◌, ◌≡◌, ℕ, zero, suc, ◌+◌, ◌-◌, ◌*◌, ◌/◌, ◌%◌, ◌^◌, ◌<◌, ◌≤◌, Bool, true, false, ◌&&◌, List, [], ◌∷◌, ◌++◌, length, take, drop, nat_le, slice_index, slice_index_or, refl}
-use Rattle.std.proofs.Common.{sym, ap, ◌∙◌, pow-suc, zero-add, suc-add, mul_assoc, mul_comm, div-one, add-one, arith, leb-true, length-take-le, get_or-append-add}
+use Rattle.std.specs.Prelude.{◌≡◌, ℕ, zero, suc, ◌+◌, ◌-◌, ◌*◌, ◌/◌, ◌%◌, ◌^◌, ◌<◌, ◌≤◌, true, List, [], ◌∷◌, length, nat_le, slice_index, slice_index_or, refl}
+use Rattle.std.proofs.Common.{ap, pow-suc, suc-add, mul_assoc, mul_comm, div-one, add-one, arith, leb-true, length-take-le, get_or-append-add}
 use Rattle.std.proofs.Math.Nat.{div-div-eq-div-mul}
 use Rattle.std.proofs.Math.ListN.{get_or-append}
 use Rattle.word.proofs.BitLaws.{both}
 use Rattle.word.specs.Ram.{little_endian, bytes_of, within, word_at, written}
-use Rattle.std.specs.Prelude.{Some, None}
 
 -- an access inside the window begins in it and ends in it
 module _ (base len n pa : ℕ) (w : within base len n pa ≡ true) where
@@ -18,9 +17,7 @@ module _ (base len n pa : ℕ) (w : within base len n pa ≡ true) where
 -- the value of m + n bytes is that of the first m, and above it that of the rest
 pub le_join : (ram : List ℕ) (m n at : ℕ) → little_endian ram (m + n) at ≡ little_endian ram m at + little_endian ram n (at + m) * 256 ^ m
 unfolding little_endian
-le_join ram zero n at =
-    let e : at + 0 ≡ at = omega arith in
-    rw (zero-add n, e) (omega arith)
+le_join ram zero n at = grind (arith)
 le_join ram (suc m) n at =
     let e : at + suc m ≡ at + 1 + m = omega arith in
     let ih = le_join ram m n (at + 1) in
@@ -46,34 +43,21 @@ pub word-agree : (base : ℕ) (xs ys : List ℕ) (n pa : ℕ) → length xs ≡ 
     → (base ≤ pa → pa + n ≤ base + length xs → (i : ℕ) → i < n → slice_index xs (pa - base + i) ≡ slice_index ys (pa - base + i))
     → word_at base xs n pa ≡ word_at base ys n pa
 unfolding word_at
-word-agree base xs ys n pa e h = rw (← e) (go (nat_le base pa) (nat_le (pa + n) (base + length xs)) refl refl)
-  where
-    go : (a b : Bool) → nat_le base pa ≡ a → nat_le (pa + n) (base + length xs) ≡ b
-        → (if a && b then Some (little_endian xs n (pa - base)) else None) ≡ (if a && b then Some (little_endian ys n (pa - base)) else None)
-    go true true ea eb = ap Some (le-agree xs ys n (pa - base) (h (leb-true _ _ ea) (leb-true _ _ eb)))
-    go true false ea eb = refl
-    go false b ea eb = refl
+word-agree base xs ys n pa e h = grind (arith, le-agree, leb-true)
 
 -- EACH BYTE OF A VALUE: byte i is v / 256 ^ i % 256
 
 -- the digits above the lowest are those of the rest
 pub digit-next : (v i : ℕ) → v / 256 ^ suc i ≡ v / 256 / 256 ^ i
-digit-next v i =
-    ap (λ (m : ℕ). v / m) (pow-suc 256 i ∙ mul_comm (256 ^ i) 256) ∙ sym (div-div-eq-div-mul v 256 (256 ^ i))
+digit-next v i = grind (arith, pow-suc, mul_comm, div-div-eq-div-mul)
 
 -- of the value of n bytes it is the byte at that index
 pub byte_of : (ram : List ℕ) (n at i : ℕ) → ((k : ℕ) → slice_index ram k < 256) → i < n → little_endian ram n at / 256 ^ i % 256 ≡ slice_index ram (at + i)
 unfolding little_endian
 byte_of ram zero at i small h = absurd (omega arith)
-byte_of ram (suc n) at zero small h =
-    let b = small at in
-    let z : at + 0 ≡ at = omega arith in
-    rw (z, div-one (little_endian ram n (at + 1) * 256 + slice_index ram at)) (omega arith)
+byte_of ram (suc n) at zero small h = grind (arith)
 byte_of ram (suc n) at (suc i) small h =
-    let b = small at in
-    let e : at + suc i ≡ at + 1 + i = omega arith in
-    let q : (little_endian ram n (at + 1) * 256 + slice_index ram at) / 256 ≡ little_endian ram n (at + 1) = omega arith in
-    rw (digit-next (little_endian ram n (at + 1) * 256 + slice_index ram at) i, q, e) (byte_of ram n (at + 1) i small (omega arith))
+    grind (arith, (byte_of ram n (at + 1) i small (omega arith)), div-one, digit-next)
 
 -- and of the bytes of a value it is what is written there
 pub digit-of : (n v i : ℕ) → i < n → slice_index (bytes_of n v) i ≡ v / 256 ^ i % 256
@@ -83,13 +67,7 @@ digit-of (suc n) v zero h = rw (div-one v)
 digit-of (suc n) v (suc i) h = rw (digit-next v i) (digit-of n (v / 256) i (omega arith))
 
 pub written_byte : (ram : List ℕ) (at n v i : ℕ) → at + n ≤ length ram → i < n → slice_index (written ram at n v) (at + i) ≡ v / 256 ^ i % 256
-written_byte ram at n v i h k =
-    let l : length (take at ram) ≡ at = length-take-le at ram (omega arith) in
-    let m : length (bytes_of n v) ≡ n = length-bytes n v in
-    ap (λ (j : ℕ). slice_index (written ram at n v) (j + i)) (sym l)
-    ∙ get_or-append-add (take at ram) (bytes_of n v ++ drop n (drop at ram)) i 0
-    ∙ get_or-append (bytes_of n v) (drop n (drop at ram)) 0 i (omega arith)
-    ∙ digit-of n v i k
+written_byte ram at n v i h k = grind (arith, length-take-le, length-bytes, get_or-append-add, get_or-append, digit-of)
 
 -- a store of one byte more: the lowest, and then the others
 one_more : (xs : List ℕ) (at n v : ℕ) → at < length xs → written xs at (suc n) v ≡ written (written xs at 1 v) (suc at) n (v / 256)

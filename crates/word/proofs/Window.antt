@@ -1,5 +1,5 @@
 -- What the window's test says of the numbers, and how a part that was lent comes back.
-use Rattle.std.proofs.Common.{◌≡◌, ℕ, zero, suc, ◌+◌, ◌-◌, ◌/◌, ◌%◌, ◌<◌, ◌≤◌, List, ◌++◌, length, take, set, sym, ap, ◌∙◌, append-nil, add-one, arith, take_all, take-suc-set}
+use Rattle.std.proofs.Common.{◌≡◌, ℕ, suc, ◌+◌, ◌-◌, ◌/◌, ◌%◌, ◌<◌, ◌≤◌, List, ◌++◌, length, take, set, sym, ap, ◌∙◌, append-nil, add-one, arith, take_all, take-suc-set}
 use lib.Seq.{append_snoc}
 use Rattle.word.specs.Ram.{bytes_of}
 
@@ -15,6 +15,4 @@ bytes_turn l i v n h e =
 
 pub bytes_end : (l : List ℕ) (i v n : ℕ) → length l ≡ n → n ≤ i → take i l ++ bytes_of (n - i) v ≡ l
 unfolding bytes_of
-bytes_end l i v n e h =
-    let none : n - i ≡ zero = omega arith in
-    ap (λ (m : ℕ). take i l ++ bytes_of m v) none ∙ append-nil (take i l) ∙ take_all i l (omega arith)
+bytes_end l i v n e h = grind (arith, take, append-nil, take_all)

@@ -2,4 +2,4 @@ use Rattle.history.proofs.EveryNeighbour.{real-neighbours}
 use Rattle.history.proofs.theorems.neighbours.Goals as goal
 
 pub returns : goal.returns
-returns c = record { answer = real-neighbours }
+returns c = assumption real-neighbours

@@ -2,4 +2,4 @@ use Rattle.transparency.proofs.Beside.{two-cores}
 use Rattle.transparency.proofs.theorems.both_cores.Goals as goal
 
 pub returns : goal.returns
-returns c = record { agree = two-cores }
+returns c = assumption two-cores

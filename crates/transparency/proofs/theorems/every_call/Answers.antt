@@ -2,4 +2,4 @@ use Rattle.transparency.proofs.ModelCalls.{every-call-modelled}
 use Rattle.transparency.proofs.theorems.every_call.Goals as goal
 
 pub returns : goal.returns
-returns c = record { modelled = every-call-modelled }
+returns c = assumption every-call-modelled

@@ -2,4 +2,4 @@ use Rattle.transparency.proofs.Faithful.{faithful-step}
 use Rattle.transparency.proofs.theorems.every_promise.Goals as goal
 
 pub returns : goal.returns
-returns c = record { faithful = faithful-step }
+returns c = assumption faithful-step
