@@ -8,7 +8,7 @@
  * stays where it is and is written by nobody else as long as the core is used, and there is nothing to release: it is
  * freed or used otherwise as any memory. a72_copy copies a core; so do a72_save and a72_restore, by numbered words
  * for a file or another program. Memory copied by assignment, memcpy or realloc is no core: it leads to the old one.
- * a72_init takes some 8 KiB of stack, every other function about 1 KiB.
+ * a72_init takes some 8 KiB of stack, a72_windows 26 KiB, every other function about 1 KiB.
  *
  * RAM. A function that needs memory is lent a window of it: `base`, the physical address of its first byte, then
  * `ram` and `len`, its bytes and their number. What lies outside the window is an external abort (status 0x10; on a

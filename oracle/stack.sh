@@ -6,11 +6,11 @@ set -eu
 objdump -dr --no-show-raw-insn -M intel "$1" | awk '
 /^[0-9a-f]+ <.*>:$/ { name = $2; sub(/^</, "", name); sub(/>:$/, "", name); frame[name] = 8; order[++n] = name; next }
 $2 == "push" { if (!ended[name]) frame[name] += 8 }
-# A large frame is taken page by page, down to a goal that is computed first.
+# A large frame is taken piece by piece, down to a goal that is computed first.
 $2 == "mov" && $3 ~ /^r[0-9a-z]+,rsp$/ { split($3, part, ","); from = part[1] }
 $2 == "sub" && from && index($3, from ",0x") == 1 { split($3, part, ","); goal = number(part[2]); from = "" }
 $2 == "lea" && $3 ~ /^r[0-9a-z]+,\[rsp-0x[0-9a-f]+\]$/ { split($3, part, "-"); sub(/\]$/, "", part[2]); goal = number(part[2]) }
-$2 == "sub" && $3 == "rsp,0x1000" && goal { frame[name] += goal; goal = 0; next }
+$2 == "sub" && $3 ~ /^rsp,0x(1000|c00)$/ && goal { frame[name] += goal; goal = 0; next }
 $2 == "sub" && $3 ~ /^rsp,/ { split($3, part, ","); frame[name] += number(part[2]) }
 $2 == "ret" { ended[name] = 1 }
 /R_X86_64_(PLT32|PC32)/ {

@@ -6,6 +6,7 @@ ghost use Rattle.call_words.specs.Ops.{key_of, kind_of, encoding_of, exception_a
 ghost use Rattle.call_words.specs.Ops.{abort_call, mark_call, call_of, translate_call};
 ghost use Rattle.call_words.specs.Walk.{walk_code, walk_words};
 ghost use Rattle.core_calls.specs.Promise.{Promise, Setting, StepPromise, CensusPromise};
+ghost use Rattle.core_calls.specs.Promise.{WindowsPromise};
 
 use call_words::reply::Report;
 use core_calls::{inspect, memory, settings, step};
@@ -195,6 +196,23 @@ pub extern "C" fn a72_census(
     ensures unchanged { handle.new.core ≡ handle.old.core }
 {
     inspect::census(handle.core(), first, pages, counts, base, ram)
+}
+
+/// Which two windows of a list share a physical page: 0 and, in `out`, 1 and the first two by their numbers, or three
+/// zeros where no two do; 10 and, in `out`, window, page and status of the first page that faults; or 1, 2 or 9, and no
+/// word is written.
+#[unsafe(no_mangle)]
+pub extern "C" fn a72_windows(
+    handle: &mut Handle,
+    list: &[u8],
+    out: &mut [u64; 3],
+    base: u64,
+    ram: &[u8],
+) -> u64
+    ensures promise { WindowsPromise list.now base ram.now handle.old.core result out.old out.new }
+    ensures unchanged { handle.new.core ≡ handle.old.core }
+{
+    inspect::windows(handle.core(), list, out, base, ram)
 }
 
 /// One walk of an untagged address: 0 and the leaf, or 256 plus the fault's status, and in either case how many

@@ -18,7 +18,8 @@ use Rattle.transparency.specs.Census.{bare_counts}
 use Rattle.call_words.specs.Replies.{code_by}
 use Rattle.call_words.specs.declared.reply.Report.{Report}
 use Rattle.core_calls.specs.Named.{call_core}
-use Rattle.core_calls.specs.Promise.{FaithfulNumber, FaithfulWords, Promise, Setting, StepPromise, CensusPromise}
+use Rattle.core_calls.specs.Promise.{FaithfulNumber, FaithfulWords, Promise, Setting, StepPromise, CensusPromise, WindowsPromise}
+use Rattle.core_calls.specs.Windows.{found_number, found_words, bare_windows}
 use Rattle.call_words.specs.declared.op.DecodedCall.{DecodedCall}
 use Rattle.call_words.specs.declared.op.DecodedCall.TheVariants.{Known, Unknown}
 
@@ -104,3 +105,15 @@ counts_on_core =
 
 pub census-on-core : counts_on_core
 census-on-core c list m first pages base ram n old counts p = p.faithful list (made-core c list m)
+
+-- and windows are found, and told, as on the core without a cache
+abbrev pub windows_on_core : Type 0
+windows_on_core =
+    (c : Core) (list : List (Lent real machine)) → Made c list
+    → (bytes : List ℕ) (base : ℕ) (ram : List ℕ) (n : ℕ) (old words : List ℕ)
+    → WindowsPromise bytes base ram c n old words
+    → (n ≡ found_number (bare_windows (bare_after list) (window_of base ram) bytes))
+    × (words ≡ found_words (bare_windows (bare_after list) (window_of base ram) bytes) old)
+
+pub windows-on-core : windows_on_core
+windows-on-core c list m bytes base ram n old words p = p.faithful list (made-core c list m)

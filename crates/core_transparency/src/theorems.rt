@@ -1,7 +1,7 @@
 // What is proved of every list of calls: each function does nothing, and its contract is the theorem. `Made` says
 // that a core was as after reset, and then calls changed it, each as its contract promises.
 ghost use Rattle.core_transparency.specs.OnCore.{made_is_core};
-ghost use Rattle.core_transparency.specs.OnCore.{faithful_on_core, faithful_step_on_core, counts_on_core};
+ghost use Rattle.core_transparency.specs.OnCore.{faithful_on_core, faithful_step_on_core, counts_on_core, windows_on_core};
 ghost use Rattle.core_transparency.specs.Counters.{hits_on_core, walks_on_core, sums_on_core};
 ghost use Rattle.core_transparency.specs.Reads.{reads_on_core, step_reads_on_core};
 ghost use Rattle.core_transparency.specs.Whole.{call_keeps_whole, made_is_whole, made_is_saved};
@@ -12,12 +12,13 @@ pub fn made_core()
 {}
 
 /// On such a core each further call is faithful: settled pages are answered as by the core without a cache, by
-/// number and by words; and a census counts, and answers, as that core does. Rules out a call whose own fast path
+/// number and by words; a census counts, and windows are found, as on that core. Rules out a call whose own fast path
 /// answers by an entry or a hint that an earlier call should have dropped.
 pub fn every_call_on_core()
     ensures call { faithful_on_core }
     ensures step { faithful_step_on_core }
     ensures census { counts_on_core }
+    ensures windows { windows_on_core }
 {}
 
 /// The counters by level of such a core are the number of the list's translations made at each level that an entry

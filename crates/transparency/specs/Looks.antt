@@ -1,5 +1,6 @@
 -- Calls that only look, a census and windows, after every list of calls: each replies what the core without a cache
--- would, and is a step that does nothing. What they find is said beside (Census.antt; of windows where their call is).
+-- would, and is a step that does nothing. What a census finds is said in Census.antt, what windows find where they are
+-- called.
 use Rattle.std.specs.Prelude.{◌≡◌, true, List, ◌∷◌, ◌++◌}
 use Rattle.cpu.specs.Inspect.{looks}
 use Rattle.cpu.specs.Step.{step_of}

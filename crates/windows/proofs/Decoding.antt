@@ -13,7 +13,7 @@ use Rattle.windows.proofs.First.{least, least-zero, least-none, least-some, firs
 use Rattle.windows.proofs.Reading.{read-none, read-some, read-fits}
 
 -- a list as long as it has to be is right or not by its windows
-counted-list : (bytes : List ℕ) (n : ℕ) → Counted bytes n → list_of bytes ≡ unless (first_in (wrongs bytes n)) (table n (window_at bytes n))
+pub counted-list : (bytes : List ℕ) (n : ℕ) → Counted bytes n → list_of bytes ≡ unless (first_in (wrongs bytes n)) (table n (window_at bytes n))
 unfolding list_of
 counted-list bytes n h =
     let long : 2 ≤ length bytes = omega (arith, h.long) in

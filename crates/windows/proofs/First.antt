@@ -53,6 +53,11 @@ module _ {A : Type 0} where
   least-same f g zero h = refl
   least-same f g (suc n) h = ap₂ or_else (least-same f g n (λ i l. h i (omega arith))) (h n (omega arith))
 
+  pub least-clear : (f : ℕ → Option A) (n : ℕ) → ((i : ℕ) → i < n → f i ≡ None) → least f n ≡ None
+  unfolding least
+  least-clear f zero h = refl
+  least-clear f (suc n) h = rw (least-clear f n (λ i l. h i (omega arith)), h n (omega arith)) refl
+
   least-front : (f : ℕ → Option A) (n : ℕ) → least f (suc n) ≡ or_else (f 0) (least (λ i. f (suc i)) n)
   unfolding least
   least-front f zero = sym (or-none (f 0))

@@ -6,3 +6,5 @@ pub mod Filling
 pub mod Gathering
 pub mod Pairing
 pub mod Whole
+pub mod Meaning
+pub mod RightLaws

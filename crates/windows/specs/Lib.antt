@@ -7,3 +7,5 @@ pub mod Rows
 pub mod Pairs
 pub mod Error
 pub mod Windows
+pub mod Laws
+pub mod Right

@@ -1,0 +1,5 @@
+use Rattle.windows.proofs.RightLaws.{right-read, read-right, wrong-told}
+use Rattle.windows.proofs.theorems.lists.Goals as goal
+
+pub returns : goal.returns
+returns c = assumption (right-read, read-right, wrong-told)
