@@ -210,6 +210,12 @@ impl Tlb {
         !self.hints || !self.told.answers(s, el.max(1))
     }
 
+    /// Whether level and mark are those that the core was told.
+    #[inline(always)]
+    pub(super) fn knows(&self, el: u32, mark: bool) -> bool {
+        self.core.level() == u64::from(el) && self.core.unprivileged() == mark
+    }
+
     /// Tell the core what pimu's registers, level and mark are, where that is not what it was told.
     #[inline(always)]
     pub(super) fn tell(&mut self, s: &SysRegs, el: u32, mark: bool) {

@@ -2,7 +2,7 @@
 //! pays nothing for it. The parts are functions of `stage1::quick`, put together as `load`, `store` and `fetch` are there.
 use crate::answer::Stop;
 use crate::core::Core;
-use crate::number::{DONE, FAULT};
+use crate::number::DONE;
 use crate::operation::Access;
 use crate::ram::Ram;
 use crate::stage1::cpu::place;
@@ -29,21 +29,17 @@ impl Core {
     /// A load of one width.
     #[inline(always)]
     pub(crate) fn load_as<W: Datum>(&mut self, ram: &Ram, va: u64) -> Result<u64, Stop> {
-        let within = W::WIDTH.bytes() <= place::in_page(va);
-        match hint::served(
-            &self.core,
-            va,
-            Access::Read as u64,
-            ram.base,
-            ram.bytes.len() as u64,
-        ) {
-            Some(pa) if within => {
+        if place::in_page(va) < W::WIDTH.bytes() {
+            return self.load_pages::<W>(ram, va);
+        }
+        let (kind, len) = (Access::Read as u64, ram.bytes.len() as u64);
+        match hint::served(&self.core, va, kind, ram.base, len) {
+            Some(pa) => {
                 let (core, answer, none) = (&mut self.core, &mut self.answer, Work::none());
                 let number = load::ended::<W>(core, va, Ok(pa), none, answer, ram.base, ram.bytes);
                 self.loaded(number)
             }
-            _ if within => self.load_rest::<W>(ram, va),
-            _ => self.load_pages::<W>(ram, va),
+            None => self.load_rest::<W>(ram, va),
         }
     }
 
@@ -85,21 +81,17 @@ impl Core {
     /// A store of one width.
     #[inline(always)]
     pub(crate) fn store_as<W: Datum>(&mut self, ram: &mut Ram, va: u64, value: u64) -> Result<(), Stop> {
-        let within = W::WIDTH.bytes() <= place::in_page(va);
-        match hint::served(
-            &self.core,
-            va,
-            Access::Write as u64,
-            ram.base,
-            ram.bytes.len() as u64,
-        ) {
-            Some(pa) if within => {
+        if place::in_page(va) < W::WIDTH.bytes() {
+            return self.store_pages::<W>(ram, va, value);
+        }
+        let (kind, len) = (Access::Write as u64, ram.bytes.len() as u64);
+        match hint::served(&self.core, va, kind, ram.base, len) {
+            Some(pa) => {
                 let (core, answer, none) = (&mut self.core, &mut self.answer, Work::none());
                 let number = store::ended::<W>(core, va, Ok(pa), none, value, answer, ram.base, ram.bytes);
                 self.stored(number)
             }
-            _ if within => self.store_rest::<W>(ram, va, value),
-            _ => self.store_pages::<W>(ram, va, value),
+            None => self.store_rest::<W>(ram, va, value),
         }
     }
 
@@ -140,8 +132,10 @@ impl Core {
     #[inline(always)]
     fn fetch_hinted(&self, ram: &Ram, va: u64) -> Option<u64> {
         let level = self.core.privilege.level;
-        let pa = self.core.tlb.by_fetch_hint(level, va)?;
-        (level <= 3 && !ends_late(ram)).then_some(pa)
+        if 3 < level || ends_late(ram) || self.core.tlb.fetch.is_none() {
+            return None;
+        }
+        self.core.tlb.by_fetch_hint(level, va)
     }
 
     /// A fetch, or where it goes, that no hint serves at once.
@@ -183,25 +177,21 @@ impl Core {
         }
     }
 
+    /// The number alone, since it is handed over as it comes.
     #[cold]
     #[inline(never)]
-    fn address_rest(&mut self, ram: &Ram, va: u64) -> Result<Option<u64>, Stop> {
-        match self.fetch_rest::<false>(ram, va) {
-            DONE => Ok(Some(self.answer.value)),
-            FAULT.. => Ok(None),
-            n => Err(self.stop(n, Access::Fetch, va)),
-        }
+    fn address_rest(&mut self, ram: &Ram, va: u64) -> u64 {
+        self.fetch_rest::<false>(ram, va)
     }
 
     /// Where an instruction fetch from `va` would go; `None` where it would fault.
     #[inline(always)]
     pub fn fetch_pa(&mut self, ram: &Ram, va: u64) -> Result<Option<u64>, Stop> {
-        match self.fetch_hinted(ram, va) {
-            Some(pa) => {
-                self.answer.reads = 0;
-                Ok(Some(pa))
-            }
-            None => self.address_rest(ram, va),
+        if let Some(pa) = self.fetch_hinted(ram, va) {
+            self.answer.reads = 0;
+            return Ok(Some(pa));
         }
+        let number = self.address_rest(ram, va);
+        self.reached(number, Access::Fetch, va)
     }
 }

@@ -149,16 +149,26 @@ impl Core {
                 self.answer.reads = 0;
                 Ok(Some(pa))
             }
-            None => self.data_pa_past_hint(ram, va),
+            None => {
+                let number = self.data_pa_past_hint(ram, va);
+                self.reached(number, Access::Read, va)
+            }
         }
     }
 
+    // The number alone, so that a hint lays nothing ready for an answer in memory.
     #[inline(never)]
-    fn data_pa_past_hint(&mut self, ram: &Ram, va: u64) -> Result<Option<u64>, Stop> {
-        match translation::data_rest(&mut self.core, va, &mut self.answer, ram.base, ram.bytes) {
+    fn data_pa_past_hint(&mut self, ram: &Ram, va: u64) -> u64 {
+        translation::data_rest(&mut self.core, va, &mut self.answer, ram.base, ram.bytes)
+    }
+
+    /// Where an access goes, by the number of what told it.
+    #[inline(always)]
+    pub(crate) fn reached(&mut self, number: u64, access: Access, va: u64) -> Result<Option<u64>, Stop> {
+        match number {
             DONE => Ok(Some(self.answer.value)),
             FAULT.. => Ok(None),
-            n => Err(self.stop(n, Access::Read, va)),
+            n => Err(self.stop(n, access, va)),
         }
     }
 
