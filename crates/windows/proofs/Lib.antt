@@ -8,3 +8,4 @@ pub mod Pairing
 pub mod Whole
 pub mod Meaning
 pub mod RightLaws
+pub mod Encoding

@@ -1,8 +1,8 @@
 -- What an answer says of pages and windows.
-use Rattle.std.specs.Prelude.{if◌then◌else◌, ◌≡◌, refl, ℕ, zero, suc, ◌/◌, ◌<◌, ◌≤◌, ◌⊎◌, ◌==◌, ◌||◌, Bool, true, false, List, [], ◌∷◌, length, nat_lt, Option, Some, None, Ok, Err, filter_map}
+use Rattle.std.specs.Prelude.{if◌then◌else◌, ◌≡◌, refl, ℕ, zero, suc, ◌/◌, ◌<◌, ◌≤◌, ◌⊎◌, ◌==◌, ◌||◌, Bool, true, false, List, length, nat_lt, Option, Some, None, Ok, Err, filter_map}
 use Rattle.std.specs.List.{list_any, cons_option}
 use Rattle.std.proofs.Common.{sym, ap, ◌∙◌, subst, inl, inr, not-suc-le-zero, arith}
-use borrow.Author.Tests.{lt-ltb, le-ltb, ltb-true, ltb-false, eqb-true, eq-eqb}
+use borrow.Author.Tests.{lt-ltb, ltb-true, ltb-false, eqb-true, eq-eqb}
 use Rattle.word.specs.Tables.{table}
 use Rattle.sysreg.specs.declared.regs.Control.{Control}
 use Rattle.fault.specs.declared.Fault.{Fault}
@@ -14,7 +14,7 @@ use Rattle.windows.specs.Windows.{Found, unless_fault, found_in}
 use Rattle.windows.specs.Laws.{IsPage, Earlier, answer_at, Shared}
 use Rattle.windows.specs.declared.{list.Window.Window, pages.PageFault.PageFault, Pair.Pair}
 use Rattle.windows.specs.declared.WindowsError.TheVariants as Error
-use Rattle.windows.proofs.First.{least, least-same, or_else, passing, first-filter_map, first-flat_map}
+use Rattle.windows.proofs.First.{least, least-same, first-filter_map, first-flat_map}
 use Rattle.windows.proofs.Pairing.{meeting_with, meeting_of, first-least}
 
 -- WHAT A LEAST NUMBER SAYS

@@ -1,16 +1,16 @@
 -- A list is read just where it is right, and what a reason says is true.
 use Rattle.std.specs.Prelude.{if◌then◌else◌, ◌≡◌, ◌≢◌, refl, ℕ, ◌+◌, ◌*◌, ◌%◌, ◌^◌, ◌<◌, ◌≤◌, ◌⊎◌, ◌==◌, ◌||◌, not, Bool, true, false, List, length, nat_lt, Option, Some, None, Ok, Err, Result}
-use Rattle.std.proofs.Common.{sym, ap, ◌∙◌, subst, inl, inr, arith}
-use borrow.Author.Tests.{lt-ltb, le-ltb, ltb-true, ltb-false, eqb-true, eqb-false, eq-eqb, ne_eqb}
+use Rattle.std.proofs.Common.{sym, ◌∙◌, subst, inl, inr, arith}
+use borrow.Author.Tests.{ltb-true, ltb-false, eqb-true, eqb-false}
 use Rattle.word.specs.Tables.{table}
 use Rattle.windows.specs.Window.{first_in}
-use Rattle.windows.specs.List.{count_of, start_at, pages_at, window_at, wrong_of, wrongs, unless, list_of, Counted}
+use Rattle.windows.specs.List.{count_of, window_at, wrong_of, wrongs, unless, list_of, Counted}
 use Rattle.windows.specs.Right.{RightWindow, RightList, RightBefore, Told}
 use Rattle.windows.specs.declared.list.{Window.Window, Malformed.Malformed}
 use Rattle.windows.specs.declared.list.Malformed.TheVariants.{Length, Count, Start, Pages, End}
 use Rattle.windows.proofs.First.{least, least-clear, first-filter_map}
 use Rattle.windows.proofs.Decoding.{wrong_at, counted-list}
-use Rattle.windows.proofs.Meaning.{FoundAt, all-none, found-at}
+use Rattle.windows.proofs.Meaning.{all-none, found-at}
 
 -- A WINDOW
 

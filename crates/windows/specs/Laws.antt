@@ -1,6 +1,6 @@
 -- What the laws of an answer speak of: the pages of a list's windows, how each ends, and which windows share one. The laws are the contracts of
 -- `theorems`.
-use Rattle.std.specs.Prelude.{◌≡◌, ℕ, ◌/◌, ◌<◌, ◌≤◌, ◌⊎◌, List, length, Option, Some, None, Ok, Err}
+use Rattle.std.specs.Prelude.{◌≡◌, ℕ, ◌/◌, ◌<◌, ◌⊎◌, List, length, Option, Ok}
 use Rattle.sysreg.specs.Regs.{regime_of}
 use Rattle.sysreg.specs.declared.regs.Control.{Control}
 use Rattle.walk.specs.Regime.{bank_of}

@@ -9,3 +9,4 @@ pub mod Error
 pub mod Windows
 pub mod Laws
 pub mod Right
+pub mod Cases

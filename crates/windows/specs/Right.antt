@@ -1,5 +1,5 @@
 -- When a list is right, condition by condition; what each reason says; and a list written from its windows.
-use Rattle.std.specs.Prelude.{◌≡◌, ◌≢◌, ℕ, ◌+◌, ◌*◌, ◌%◌, ◌^◌, ◌<◌, ◌≤◌, ◌⊎◌, List, ◌++◌, length, flat_map, All}
+use Rattle.std.specs.Prelude.{◌≡◌, ◌≢◌, ℕ, ◌+◌, ◌*◌, ◌%◌, ◌^◌, ◌<◌, ◌≤◌, ◌⊎◌, List, ◌++◌, length, flat_map}
 use Rattle.word.specs.Ram.{bytes_of}
 use Rattle.windows.specs.Window.{window}
 use Rattle.windows.specs.List.{count_of, start_at, pages_at, window_at, Counted}
@@ -48,4 +48,4 @@ bytes_of_windows ws = bytes_of 2 (length ws) ++ (flat_map (λ w. bytes_of 8 w.st
 -- each window of a list is right, and there are at most 64
 pub record RightWindows (ws : List Window) : Type 0 where
   pub few : length ws ≤ 64
-  pub right : All RightWindow ws
+  pub right : (i : ℕ) → i < length ws → RightWindow (window ws i)

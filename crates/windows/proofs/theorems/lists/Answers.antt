@@ -1,5 +1,6 @@
+use Rattle.windows.proofs.Encoding.{written-read}
 use Rattle.windows.proofs.RightLaws.{right-read, read-right, wrong-told}
 use Rattle.windows.proofs.theorems.lists.Goals as goal
 
 pub returns : goal.returns
-returns c = assumption (right-read, read-right, wrong-told)
+returns c = assumption (right-read, read-right, wrong-told, written-read)
