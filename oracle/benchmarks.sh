@@ -12,8 +12,9 @@ bench=target-rattle/release/bench
 ./ir.sh $bench "$work/counts" >/dev/null
 $bench time 900 --counts "$work/counts" >"$work/table"
 SIDE=plain ./ir.sh $bench "$work/plain-counts" >/dev/null
-# For the plain core both sides are built so that no jump lies over a boundary of 32 bytes: no place decides.
-RUSTFLAGS="-C llvm-args=-x86-branches-within-32B-boundaries" cargo build --offline --release -j1 --target-dir target/placed --bin bench
+# For the plain core both sides are built so that no jump lies over a boundary of 32 bytes, and each loop begins at one of 64: no place decides.
+RUSTFLAGS="-C llvm-args=-x86-branches-within-32B-boundaries -C llvm-args=-x86-experimental-pref-innermost-loop-alignment=6" \
+    cargo build --offline --release -j1 --target-dir target/placed --bin bench
 target/placed/release/bench time 900 --plain --counts "$work/plain-counts" >"$work/plain-table"
 ./stack.sh "$A72_LIB/lib$A72_NAME.a" >"$work/frames"
 

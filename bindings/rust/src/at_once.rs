@@ -158,6 +158,7 @@ impl Core {
         }
     }
 
+    #[cold]
     #[inline(never)]
     fn instruction_rest(&mut self, ram: &Ram, va: u64) -> Result<u32, Stop> {
         let number = self.fetch_rest::<true>(ram, va);

@@ -92,11 +92,7 @@ module _ (b : Bare) where
   sized-few m va s kind u = grind (arith, one-few, two-pages)
 
   zero-few : (m : Ram) (ms : List Ram) (va : ℕ) (u : Model) → Few (zero_steps b m ms va) u (8 * length (m ∷ ms))
-  zero-few m [] va u =
-      let split = reads-append (made_in real (plain_in b) m (access_in b va 8 Kind.Write) u) [] in
-      let few = few-made (plain_in b) m (access_in b va 8 Kind.Write) u in
-      let two = two-pages va 8 Kind.Write in
-      omega (arith, split, few, two)
+  zero-few m [] va u = search (rules, reads-append, walk-few)
   zero-few m (n ∷ ms) va u =
       let next = model_event real (steps m (asking (access_in b va 8 Kind.Write))) (plain_in b) u in
       let split = reads-append (made_in real (plain_in b) m (access_in b va 8 Kind.Write) u)

@@ -123,10 +123,7 @@ module _ (va n : ℕ) (kind : Kind) where
 
   pub answers-placed : (c : Bool) → (c ≡ true → in_page va < n) → (q : Plain real) (m : Ram) (t : Tlb)
       → PlacedFrom va n (answers real q m (asks_by c va kind) t)
-  answers-placed false close q m t =
-      subst (λ (l : List Given). PlacedFrom va n (one (answer_of real q m (translates kind va) t) ∷ l))
-      (sym (onward-same (answer_of real q m (translates kind va) t) []))
-      (placed_one (answer_of real q m (translates kind va) t))
+  answers-placed false close q m t = grind (arith, onward-same, placed_one, placed-two)
   answers-placed true close q m t =
       go (answer_of real q m (translates kind va) t)
       (answer_of real q m (translates kind (next_page va)) (tlb_ask real q m (translates kind va) t))

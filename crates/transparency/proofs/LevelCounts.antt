@@ -2,6 +2,7 @@
 -- the access, which `unprivileged` does not lower. Their sums, wrapped at 2^64, are the Rust's two counters. Which translations a list made, at which
 -- level, and how each was answered is read from the plain model, on the events of the list (Events.antt; RAM at a zeroing's
 -- later stores as the run shows it: Starts.antt).
+use Rattle.std.proofs.Common.{rules}
 use Rattle.std.specs.Prelude.{◌≡◌, true, List, [], ◌∷◌, ℕ, ◌+◌, ◌%◌, ◌^◌, ◌<◌}
 use Rattle.std.proofs.Common.{sym, ap, subst, ◌∙◌, arith}
 use Rattle.word.specs.Bits.{align_down, wrap}
@@ -87,8 +88,7 @@ module _ (b : Bare) where
   zero-level : (m : Ram) (ms : List Ram) (va : ℕ) (u : Model) → AtLevel (made_run real (plain_in b) (zero_steps b m ms va) u)
   zero-level m [] va u = one m (storing va) u
   zero-level m (n ∷ ms) va u =
-      each_append (made-level real (plain_in b) m (storing va).asks u)
-      (zero-level n ms (wrap (va + 8)) (model_event real (steps m (storing va)) (plain_in b) u))
+      search (rules, (zero-level n ms (wrap (va + 8)) (model_event real (steps m (storing va)) (plain_in b) u)), each_append, made-level)
 
   sys-level : (op : SysOp) (m : Ram) (ms : List Ram) (e : Encoding) (u : Model) → AtLevel (made_run real (plain_in b) (sys_steps op b m ms e) u)
   sys-level Op.Zva m ms e u = zero-level m ms (align_down (operand_in b e) 6) u

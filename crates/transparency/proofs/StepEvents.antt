@@ -98,10 +98,7 @@ made b s z =
 
 pub plain-many : (b : Bare) (l : List Step) → Apart b l → plain_run real (plain_in b) (events b l) ≡ plain_in (bare_run b l)
 plain-many b [] a = refl
-plain-many b (s ∷ l) a =
-    plain-append real (plain_in b) (events_in b s.ram [] s.call) (events (bare_step b s.ram s.call) l)
-    ∙ ap (λ (q : Plain real). plain_run real q (events (bare_step b s.ram s.call) l)) (sym (plain-one b s a.0))
-    ∙ plain-many (bare_step b s.ram s.call) l a.1
+plain-many b (s ∷ l) a = grind (arith, (plain-many (bare_step b s.ram s.call) l a.1), plain-append, plain-one)
 
 pub drops-many : (b : Bare) (l : List Step) → Apart b l → History.drops_run real (plain_in b) (events b l) ≡ drops_run b l
 drops-many b [] a = refl
@@ -113,6 +110,4 @@ drops-many b (s ∷ l) a =
 
 pub events-append : (b : Bare) (l k : List Step) → events b (l ++ k) ≡ events b l ++ events (bare_run b l) k
 events-append b [] k = refl
-events-append b (s ∷ l) k =
-    ap (λ (es : List (Event real)). events_in b s.ram [] s.call ++ es) (events-append (bare_step b s.ram s.call) l k)
-    ∙ sym (append_assoc (events_in b s.ram [] s.call) _ _)
+events-append b (s ∷ l) k = grind (arith, (events-append (bare_step b s.ram s.call) l k))

@@ -55,8 +55,7 @@ core-append c (s ∷ l) k = core-append (step_of c s.ram.base s.ram.bytes s.call
 
 pub both-run : (c : Core) (l : List Step) → bare_of (core_run c l) ≡ bare_run (bare_of c) l
 both-run c [] = refl
-both-run c (s ∷ l) =
-    both-run (step_of c s.ram.base s.ram.bytes s.call).core l ∙ ap (λ (b : Bare). bare_run b l) (bridge.bare-is c s.ram s.call)
+both-run c (s ∷ l) = grind (arith, (both-run (step_of c s.ram.base s.ram.bytes s.call).core l), bridge.bare-is)
 
 -- a store of eight zero bytes that misses no check
 module _ (c : Core) (m : Ram) (va : ℕ) (passed : missed_in (bare_of c) m (Store va 8 0) ≡ 0) where

@@ -27,9 +27,9 @@ start_in list i = value_at list 8 (start_place i)
 abbrev pub pages_in : List ℕ → ℕ → ℕ
 pages_in list i = value_at list 2 (pages_place list i)
 
--- a list that is too short or too long is at fault where it ends
+-- a list that is too short or too long is at fault where it ends; it should end where one more length would stand
 abbrev pub refusal_of : Malformed → List ℕ → Refusal
-refusal_of Why.Length list = record { byte = length list; reason = Bytes (length list) (2 + 10 * count_in list) }
+refusal_of Why.Length list = record { byte = length list; reason = Bytes (length list) (pages_place list (count_in list)) }
 refusal_of Why.Count list = record { byte = 0; reason = Count (count_in list) }
 refusal_of (Why.Start i) list = record { byte = start_place i; reason = Start i (start_in list i) }
 refusal_of (Why.Pages i) list = record { byte = pages_place list i; reason = Pages i (pages_in list i) }

@@ -1,5 +1,5 @@
 -- The runs of a window by their addresses.
-use Rattle.std.specs.Prelude.{ℕ, ◌+◌, ◌-◌, ◌*◌, List, [], ◌∷◌}
+use Rattle.std.specs.Prelude.{ℕ, ◌+◌, ◌-◌, ◌*◌, ◌^◌, List, [], ◌∷◌}
 use Rattle.word.specs.Bits.{wrap}
 use Rattle.windows_report.specs.Runs.{end_of}
 use Rattle.windows_report.specs.declared.{run.Run.Run, report.Pages.Pages}

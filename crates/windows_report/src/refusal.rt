@@ -65,7 +65,7 @@ impl Refusal {
                 byte: list.len() as u64,
                 reason: Reason::Bytes {
                     are: list.len() as u64,
-                    want: start_place(count(list)).wrapping_add(count(list).wrapping_mul(2)),
+                    want: pages_place(list, count(list)),
                 },
             },
             Malformed::Count => Refusal {

@@ -1,5 +1,5 @@
 //! The pages of a window as runs: those that follow one another and are mapped on, or end in one fault.
-ghost use Rattle.std.specs.Prelude.{◌≡◌, ◌↔◌, ◌++◌, ◌∷◌, [], IsTrue, IfOk};
+ghost use Rattle.std.specs.Prelude.{◌≡◌, ◌↔◌, ◌<◌, ◌++◌, ◌∷◌, [], IsTrue, IfOk};
 ghost use Rattle.windows_report.specs.Runs.{Continues, end_of, written};
 
 use fault::Fault;
@@ -22,17 +22,16 @@ impl Run {
         va.wrapping_add(self.pages.wrapping_mul(4096))
     }
 
-    // Whether a page that is answered so goes on where the run ends.
+    // Whether a page that is answered so goes on where the run ends. No window has more pages than 16.
     fn goes_on(&self, next: Result<u64, Fault>) -> bool
-        ensures { IsTrue result ↔ Continues self.now next }
+        ensures { IsTrue result ↔ (self.now.pages < MOST_PAGES) × Continues self.now next }
     {
-        match (self.first, next) {
-            (Ok(pa), Ok(other)) => {
-                pa <= other && (other - pa) % 4096 == 0 && (other - pa) / 4096 == self.pages
+        self.pages < MOST_PAGES as u64
+            && match (self.first, next) {
+                (Ok(pa), Ok(other)) => pa <= other && other - pa == self.pages * 4096,
+                (Err(fault), Err(other)) => fault.fsc == other.fsc,
+                _ => false,
             }
-            (Err(fault), Err(other)) => fault.fsc == other.fsc,
-            _ => false,
-        }
     }
 }
 
@@ -40,18 +39,21 @@ impl Run {
 fn add(runs: &mut Vec<Run>, next: Result<u64, Fault>) -> Result<(), AllocError>
     ensures { IfOk result (λ done. written runs.new.items ≡ written runs.old.items ++ next ∷ []) }
 {
-    if let Some(before) = runs.pop() {
-        if before.pages < MOST_PAGES as u64 && before.goes_on(next) {
-            let pages = before.pages + 1;
-            runs.push(Run { pages, ..before })?;
-            return Ok(());
-        }
-        runs.push(before)?;
-    }
-    runs.push(Run {
+    let one = Run {
         pages: 1,
         first: next,
-    })?;
+    };
+    let Some(before) = runs.pop() else {
+        runs.push(one)?;
+        return Ok(());
+    };
+    if before.goes_on(next) {
+        let pages = before.pages + 1;
+        runs.push(Run { pages, ..before })?;
+        return Ok(());
+    }
+    runs.push(before)?;
+    runs.push(one)?;
     Ok(())
 }
 

@@ -1,6 +1,6 @@
 //! The physical pages that two windows share.
 ghost use Rattle.std.specs.Prelude.{◌≡◌, IfOk};
-ghost use Rattle.windows_report.specs.Shared.{is_one, shared_in};
+ghost use Rattle.windows_report.specs.Shared.{is_one, shared_from};
 
 use fault::Fault;
 use json_text::Hex;
