@@ -58,12 +58,12 @@ end. One argument of each call alternates between two values, so that a case sta
 | TLBI | 1,024 live entries at the start |
 | lent | the translations of the same names again, under the bars of a core that was lent by reference inside the library |
 | census | 65,536 pages, from two addresses of one page; the Rust's side is a loop over `stage1_on`, `untag` and `walk` page by page into 129 counts; times and instructions are those of one page |
-| windows | 64 windows of sixteen pages, 1,024 pages by three tables and 516,096 comparisons; all apart, or the last window the first one again; sixteen windows of one page; each list there and turned round. The Rust's side is a list's bytes, `stage1_on`, `untag` and `walk` page by page and the permission bit, and then each pair by `contains` (`oracle/harness/src/rust/windows.rs`): pimu has no such function |
+| windows | 64 windows of sixteen pages, 1,024 pages by three tables and 516,096 comparisons; all apart, or the last window the first one again; sixteen windows of one page; each list there and turned round. The Rust's side is a list's bytes, `stage1_on`, `untag` and `walk` page by page and the permission bit, and then each pair in the same form as here, a page looked for up to a window's end (`oracle/harness/src/rust/windows.rs`): pimu has no such function. By std's `contains`, which ends at the page, it took 283 µs in a build in which the library took 188, and 158 in one in which no jump lies over a boundary of 32 bytes |
 | frames | a total of hours, and the largest of all; the Rust's side is one function of rate and total, by a product of 128 bits, divided, and what that leaves (`bench/rust.rs`): pimu has no such function. A function of 48,000 a second alone is compiled to a division of 64 bits: 1.94 ns in a run in which the library took 2.58 |
 | register write | TCR_EL1 between two values; TTBR0_EL1 between two ASIDs; VBAR_EL1; SCTLR_EL1 to what it is |
 
 The bars: hint hits 1.05, on `fetch_pa` 1.5; entry hits of translate, data_pa and fetch_pa 1.1, of load, store and fetch 1.15; walks and faults of translations 1.05; stage 1 off 1.15; split accesses,
-TLBI, register writes and settings 1.2; DC ZVA 1.0; abort entry 1.6; the census 0.95; sample frames 1.0; lists of windows 1.1; on a lent core hint hit 1.3, entry hit 1.2, walks 0.95. The other cases have none. Until November 2026 hint hits
+TLBI, register writes and settings 1.2; DC ZVA 1.0; abort entry 1.6; the census 0.95; sample frames 1.0; lists of 64 windows 1.1; on a lent core hint hit 1.3, entry hit 1.2, walks 0.95. The other cases have none. Until November 2026 hint hits
 had 0.95 (translations) and 1.0 (loads and stores), entry hits of translations 1.05, a lent core 1.5, 1.8 and 1.5, and fetch, data_pa, DC ZVA, abort entry and settings none.
 
 ## How it was run

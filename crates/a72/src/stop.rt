@@ -5,6 +5,7 @@ ghost use Rattle.a72.specs.Status.{status_of};
 
 use crate::usage;
 use census_report::report::Refused;
+use cpu::check::Check;
 use std::alloc::{AllocError, Global};
 use std::io;
 use std::io::Write;
@@ -84,8 +85,8 @@ pub enum Stop {
 impl From<list::Refused> for Stop {
     fn from(refused: list::Refused) -> Self {
         match refused {
-            list::Refused::Level => Stop::Census(Refused::Level),
-            list::Refused::Window => Stop::Census(Refused::Window),
+            list::Refused::Check(Check::Level) => Stop::Census(Refused::Level),
+            list::Refused::Check(_) => Stop::Census(Refused::Window),
             list::Refused::List(refusal) => Stop::WrongList(refusal),
             list::Refused::Memory(error) => Stop::Memory(error),
         }

@@ -24,8 +24,7 @@ module _ (w : World) (M : Machine w) where
   pub events-one : (b : M.Bare) (l : List (Fed w M)) (x : Fed w M)
       → events_run w M b (l ++ x ∷ []) ≡ events_run w M b l ++ events_fed w M (bare_run w M b (lent_of w M l)) x
   events-one b [] x = append-nil _
-  events-one b (y ∷ l) x =
-      grind (arith, (events-one (M.bare_step b y.lent.ram y.lent.call) l x), append-nil, append_assoc)
+  events-one b (y ∷ l) x = grind (arith, (events-one (M.bare_step b y.lent.ram y.lent.call) l x), append_assoc)
 
   pub shown-one : (c : M.Core) (l : List (Fed w M)) (x : Fed w M) → Shown w M c l → ShownIn w M (run w M c (lent_of w M l)) x
       → Shown w M c (l ++ x ∷ [])
@@ -35,7 +34,7 @@ module _ (w : World) (M : Machine w) where
 module _ (w : World) (M : Machine w) (B : Bridge w M) (laws : Laws w) (c₀ : M.Core) (new : M.tlb c₀ ≡ fresh)
     (zero-asid : w.asid (plain_of w M c₀).regs ≡ 0) (low : (plain_of w M c₀).privilege.level ≤ 3) where
   pub same-replies : (A : Replies w M) → RepliesByAnswers w M A → SameReplies w M A c₀
-  same-replies A same list s x sx tidy = grind (arith, run-bare, fed-events, fresh-run, run-plain, rest-invisible)
+  same-replies A same list s x sx tidy = grind (arith, run-bare, fresh-run, run-plain, rest-invisible)
 
   -- the calls of `todo` after those of `made`
   rest-replies : (A : Replies w M) → RepliesByAnswers w M A → (made todo : List (Fed w M)) → Shown w M c₀ made → Shown w M (run w M c₀ (lent_of w M made)) todo
@@ -44,7 +43,7 @@ module _ (w : World) (M : Machine w) (B : Bridge w M) (laws : Laws w) (c₀ : M.
       ≡ bare_replies w M A (bare_run w M (M.bare c₀) (lent_of w M made)) (lent_of w M todo)
   rest-replies A same made [] s st tidy = refl
   rest-replies A same made (x ∷ todo) s st tidy =
-      grind (arith, (rest-replies A same (made ++ x ∷ []) todo (shown-one w M c₀ made x s st.0)), same-replies, append_assoc, run-one, bare-one, shown-one, events-one)
+      grind (arith, (rest-replies A same (made ++ x ∷ []) todo (shown-one w M c₀ made x s st.0)), same-replies, append_assoc, run-one, bare-one, events-one)
 
   pub invisible-calls : (A : Replies w M) → RepliesByAnswers w M A → InvisibleCalls w M A c₀
   invisible-calls A same list s tidy = rest-replies A same [] list tt s tidy

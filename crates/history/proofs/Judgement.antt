@@ -75,7 +75,7 @@ module _ (past : List (Event real)) (m : Ram) (a : Ask) where
 -- STATUSES
 
 pub status-row : (past : List (Event real)) (m : Ram) (a : Ask) (x : Fault) → Judged past m a (Err x) → Row x.fsc
-status-row past m a x h1 = search (rules, flat-failed, table-walk-sound)
+status-row past m a x h1 = search (rules, table-walk-sound)
 
 -- THE CORE WITHOUT A CACHE is judged by the walk of now
 

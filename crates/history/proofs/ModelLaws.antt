@@ -95,4 +95,4 @@ module _ (w : World) (laws : Laws w) where
 
     pub history-answers : (m : w.Ram) (l : List Ask)
         → answers w (plain_run w c₀ past) m l (tlb_run w c₀ past fresh) ≡ model_answers w (plain_run w c₀ past) m l (model_run w c₀ past empty_model)
-    history-answers m l = grind (arith, answers-live, run-low, run-stands, fresh-stands, history-model)
+    history-answers m l = grind (arith, answers-live, run-low, run-stands, fresh-stands)

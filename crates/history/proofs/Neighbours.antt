@@ -18,7 +18,7 @@ module _ (w : World) where
   under : {P : Inval → Type 0} (a : ℕ) (c : Plain w) (l : List (Event w)) → Each P (drops_run w c l) → Each P (drops_under w a c l)
   under a c [] ps = done
   under {P} a c (x ∷ l) ps =
-      grind (arith, (under a (after_event w x c) l (each_right (drops_event w x c) (drops_run w (after_event w x c) l) ps)), each_append, each_left, each_right)
+      grind (arith, (under a (after_event w x c) l (each_right (drops_event w x c) (drops_run w (after_event w x c) l) ps)), each_append, each_left)
 
   pub own-settled : (c₀ : Plain w) (past : List (Event w)) (m : w.Ram) (r : Regime) (p : ℕ) → Own w c₀ past m r p → Settled w c₀ past m r p
   own-settled c₀ past m r p own =

@@ -46,10 +46,7 @@ place-low p = omega arith
 module _ (w : World) where
   -- a hint's place says its kind
   kind-at : (k : Kind) (mark : Bool) (va : ℕ) → hintable k mark ≡ true → kind_at w (hint_place k va) ≡ k
-  kind-at k mark va h1 = grind (arith, lt-ltb, place-low, le-ltb, false≢true)
-
-  pub leaf-equal : {ℓ ℓ' : Leaf} (bit va : ℕ) → LeavesEqual ℓ ℓ' → leaf_answer ℓ bit va ≡ leaf_answer ℓ' bit va
-  leaf-equal bit va g = grind arith
+  kind-at k mark va h1 = grind (arith, lt-ltb, place-low, le-ltb)
 
   -- each walk of the page that no invalidation since covers, global or under today's ASID, equals its walk now
   abbrev pub Agreed : List (Moment w) → w.Regs → w.Ram → Regime → ℕ → Type 0
@@ -250,4 +247,4 @@ module _ (w : World) where
 
       pub fetch-done : k ≡ Fetch → Fine (fetch a t)
       unfolding fetch
-      fetch-done f = grind (arith, fetch-tried, at)
+      fetch-done f = grind (arith, fetch-tried)

@@ -56,15 +56,19 @@ module _ (w : World) where
   unfolding invalidate
   inval-alike v u = grind arith
 
-  effect-alike : (e : Effect w) (c : Plain w) (u : Model) → Alike (model_after w e c u).counts u.counts
-  unfolding broadcast model_retagged model_flushed invalidate retag
-  effect-alike e c u = grind arith
-
   run-alike : (past : List (Event w)) (c : Plain w) (u : Model) → Alike (model_run w c past u).counts (counted_all (made_run w c past u) u.counts)
   unfolding broadcast model_retagged model_flushed invalidate retag
   run-alike [] c u = same_alike
   run-alike (steps m s ∷ xs) c u =
-      grind (arith, (run-alike xs (after w s.effect c) (model_event w (steps m s) c u)), same_alike, then-alike, effect-alike, asks-counts, all_alike, counted-append, inval-alike, u.counts)
+      grind (arith,
+      (run-alike xs (after w s.effect c) (model_event w (steps m s) c u)),
+      same_alike,
+      then-alike,
+      asks-counts,
+      all_alike,
+      counted-append,
+      inval-alike,
+      u.counts)
   run-alike (receives v ∷ xs) c u =
       then-alike (run-alike xs c (invalidate v u)) (all_alike (made_run w c xs (invalidate v u)) (inval-alike v u))
 

@@ -85,9 +85,6 @@ module _ (w : World) where
 
   -- A STEP BEGINS: more is seen, and every hint stays so
 
-  seen-line : (h : List Moment) (R : w.Regs) (m : w.Ram) (s : Slot Line) → LineOk h s → LineOk (at R m ∷ h) s
-  seen-line h R m s h1 = grind arith
-
   seen-hint-from : {h : List Moment} {R : w.Regs} {k : Kind} {v el q : ℕ} (S : w.Regs) (m : w.Ram) → HintFrom h R k v el q
       → HintFrom (at S m ∷ h) R k v el q
   seen-hint-from S m (flat o e) = flat o e
@@ -98,7 +95,7 @@ module _ (w : World) where
   seen-hint h R S m k (holds n) o = seen-hint-from S m o
 
   pub traced-at : {h : List Moment} {R : w.Regs} {t : Model} (m : w.Ram) → Traced h R t → Traced (at R m ∷ h) R t
-  traced-at {h} {R} {t} m s = grind (arith, seen-line, seen-hint)
+  traced-at {h} {R} {t} m s = grind (arith, seen-hint)
 
   -- INVALIDATION: what it spares, it does not cover
 

@@ -25,7 +25,7 @@ abbrev pub Adds : Work → Work → ℕ → Type 0
 Adds v before more = v.reads ≡ (before.reads + more) % 2 ^ 64
 
 pub adds-small : (v before : Work) (more : ℕ) → Adds v before more → v.reads < 2 ^ 64
-adds-small v before more e = omega (arith, e)
+adds-small v before more e = grind arith
 
 pub adds-none : (v : Work) → v.reads < 2 ^ 64 → Adds v v 0
 adds-none v small = omega arith

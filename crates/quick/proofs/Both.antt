@@ -13,13 +13,6 @@ use Rattle.cpu.specs.declared.place.Pages.{Pages}
 use Rattle.cpu.specs.declared.place.Place.TheVariants.{Split}
 use Rattle.cpu.proofs.Moves.{fits-base, fits-end, split-value}
 
--- n bytes from pa lie in RAM, so each of them does
-one-within : (base len n pa i : ℕ) → base + len < 2 ^ 64 → within base len n pa ≡ true → i < n → within base len 1 (wrap (pa + i)) ≡ true
-one-within base len n pa i h e k = grind arith
-
-outside-value : (v : ℕ) → None ≡ Some v → ⊥
-outside-value v e = cc
-
 value-is : (a b : ℕ) → Some a ≡ Some b → a ≡ b
 value-is a b e = cc
 
@@ -42,14 +35,14 @@ module _ (base len : ℕ) (p : Pages) (n : ℕ) where
   unfold-both = grind arith
 
   pub both-lie : len < 2 ^ 64 → both_inside base len p n ≡ true → Lie base len p n
-  both-lie h t = search (rules, unfold-both, and_both, ltb, one-within, ltb-true, ltb-false)
+  both-lie h t = search (rules, unfold-both, and_both, ltb, ltb-true, ltb-false)
 
 -- THE TWO PARTS OF A STORE
 
 -- a store of no bytes
 stored-none : (base : ℕ) (ram : List ℕ) (pa v : ℕ) → stored base ram 0 pa v ≡ ram
 unfolding stored bytes_of
-stored-none base ram pa v = grind (arith, length, take-append-drop)
+stored-none base ram pa v = grind (arith, take-append-drop)
 
 -- of bytes that lie in RAM
 inside : (base : ℕ) (xs : List ℕ) (m q w : ℕ) → base ≤ q → q + m ≤ base + length xs → stored base xs m q w ≡ written xs (q - base) m w
@@ -59,7 +52,7 @@ inside base xs m q w h k = rw (le-leb _ _ h, le-leb _ _ k)
 -- of one byte more: the lowest, and then the others
 stored_next : (base : ℕ) (ram : List ℕ) (n pa v : ℕ) → true ≡ within base (length ram) (suc n) pa
     → stored base ram (suc n) pa v ≡ stored base (stored base ram 1 pa v) n (pa + 1) (v / 256)
-stored_next base ram n pa v e = grind (arith, fits-base, length, fits-end, inside, stored-length, written_next)
+stored_next base ram n pa v e = grind (arith, length, fits-end, inside, stored-length, written_next)
 
 -- bytes that follow one another in RAM are one part
 row-stored : (base : ℕ) (p : Pages) (v i n q : ℕ) (ram : List ℕ) → ((j : ℕ) → j < n → byte_at p (i + j) ≡ q + j)
@@ -171,7 +164,7 @@ module _ (base : ℕ) (ram : List ℕ) (p : Pages) (n : ℕ) (f : Bool) (ef : f 
 module _ (base : ℕ) (ram : List ℕ) (pa pa2 : ℕ) (f : Bool) (ef : f ≡ both_inside base (length ram) (pair_at pa pa2) 2) where
   pub pair-wrote : length ram < 2 ^ 64 → (xs ys : List ℕ) (v : ℕ) → f ≡ true → xs ≡ stored base ram 1 pa v → ys ≡ stored base xs 1 pa2 (v / 256)
       → ys ≡ both_stored base ram (pair_at pa pa2) 2 v
-  pair-wrote h xs ys v t ex ey = grind (arith, both-wrote, shr-shr)
+  pair-wrote h xs ys v t ex ey = grind (arith, both-wrote)
 
 -- and what it says is what the bytes say
 lie-inside : (base len : ℕ) (p : Pages) (n : ℕ) → Lie base len p n → (m i : ℕ) → i + m ≤ n → first_outside base len p i m ≡ Ok tt
@@ -185,7 +178,7 @@ module _ (base : ℕ) (ram : List ℕ) (p : Pages) (n : ℕ) (h : length ram < 2
 
   pub both-loads : (v : ℕ) → both_at base ram p n ≡ Some v → load_of base ram (Split p) n ≡ Ok v
   unfolding both_at
-  both-loads v = grind (arith, length, split-value, all-inside, value-is, outside-value)
+  both-loads v = grind (arith, length, split-value, all-inside, value-is)
 
   pub both-judged : both_inside base (length ram) p n ≡ true → verdict_of base (length ram) (Split p) n ≡ Ok tt
   unfolding verdict_of

@@ -70,13 +70,6 @@ module _ (c : Core) (base : ℕ) (ram : List ℕ) (s : Stepped) (w : Work) where
       → Tells (ram_checked c base ram s) w old n new d
   ram-told e old n new d t = rw (← e) t
 
-  ram-refuses : (k : Check) → number_of k ≡ first_of (ram_rows c.privilege.level base (length ram)) → ends c (Refused (number_of k)) ≡ ram_checked c base ram s
-  ram-refuses k h1 = grind arith
-
-  pub ram-refused : (k : Check) → number_of k ≡ first_of (ram_rows c.privilege.level base (length ram)) → (old : Report) (n : ℕ) → n ≡ number_of k
-      → Tells (ram_checked c base ram s) w old n old c
-  ram-refused k e old n en = tells _ _ c (Refused (number_of k)) _ n old old (ram-refuses k e) refl en refl refl
-
 -- where a check is missed nothing was read
 module _ (c : Core) (s : Stepped) (w : Work) (old : Report) (n : ℕ) (new : Report) (d : Core) where
   abbrev Checked : ℕ → Work → Type 0

@@ -96,4 +96,4 @@ module _ (c : Core) (base : ℕ) (ram : List ℕ) (va : ℕ) (e : Core) (x : Ans
 
     pub told : (insn : Bool) (old : Report) (n : ℕ) (new : Report) (f : Core) → Tells (fetch_ended insn e x base ram va) k old n new f
         → Tells (fetch_run insn c base ram va) (fetch_work c (word_at base ram 8) va no_work) old n new f
-    told insn old n new f h1 = grind (arith, as-told, fetched-is, reached-is)
+    told insn old n new f h1 = grind (arith, fetched-is, reached-is)

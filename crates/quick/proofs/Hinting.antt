@@ -54,7 +54,7 @@ module _ (c : Core) (va base len s : ℕ) (es : s ≡ data_slot va Read) where
   agree kind = shown kind ≡ meant kind
 
   reads : (kind : ℕ) (is1 : Bool) → eqb kind 1 ≡ is1 → agree kind
-  reads kind is1 h1 = search (rules, eqb-true, lt-leb)
+  reads kind is1 h1 = search rules
 
   abbrev by : ℕ → Hint → ℕ → Option ℕ
   by kind h pa = then_some ((eqb kind 1 || eqb kind 2) && (eqb h.key (va - va % 4096 + asker) && (leb asker 3 && fits))) pa
@@ -63,27 +63,7 @@ module _ (c : Core) (va base len s : ℕ) (es : s ≡ data_slot va Read) where
   serves kind h pa eh ep = ap (by kind h) ep ∙ ap (λ (x : Hint). by kind x (on_page x.pa va)) eh ∙ reads kind (eqb kind 1) refl
 
 -- THE FETCH HINT
-module _ (c : Core) (va base len : ℕ) where
-  abbrev fetch_fits : Bool
-  fetch_fits = leb base (2 ^ 64 - 1 - len)
-
-  abbrev fetch_by : FetchHint → ℕ → Option ℕ
-  fetch_by f pa = then_some ((eqb f.page (va - va % 4096) && eqb f.level c.privilege.level) && (leb c.privilege.level 3 && fetch_fits)) pa
-
-  abbrev fetch_meant : Option FetchHint → Option ℕ
-  fetch_meant h = if plain c base len then fetch_found h c.privilege.level va else None
-
-  fetch-by-page : (h : Option FetchHint) → fetch_by (fetch_hint_of h) (on_page (fetch_hint_of h).pa va) ≡ fetch_meant h
-  fetch-by-page h = grind arith
-
-  pub fetch-asked : (f : FetchHint) (pa : ℕ) → f ≡ fetch_hint_of c.tlb.fetch → pa ≡ on_page f.pa va → fetch_by f pa ≡ fetch_served c base len va
-  fetch-asked f pa ef ep = ap (fetch_by f) ep ∙ ap (λ (g : FetchHint). fetch_by g (on_page g.pa va)) ef ∙ fetch-by-page c.tlb.fetch
-
 -- WHAT WAS NOT SERVED
-module _ (c : Core) (base len : ℕ) (x : Option ℕ) where
-  pub unserved : c.privilege.level < 4 → base ≤ 2 ^ 64 - 1 - len → (if plain c base len then x else None) ≡ None → x ≡ None
-  unserved low fits h = grind arith
-
 -- WHAT WAS SERVED
 abbrev is_at : Option ℕ → Type 0
 is_at (Some n) = Unit {0}

@@ -63,13 +63,13 @@ module _ (d : Core) (base : ℕ) (ram : List ℕ) (va n : ℕ) where
 
     pub end-outside : w ≡ None → va < 2 ^ 64 → record { core = record d { last_pa = pa; abort_pa = pa }; answer = Err (data_abort va false external) } ≡ by a
     unfolding load_end after_access
-    end-outside q h = grind (arith, mod-eq_of_lt, whole-abort)
+    end-outside q h = grind (arith, whole-abort)
 
 -- a load of one page, by its translation
 pub told : (c : Core) (base : ℕ) (ram : List ℕ) (va n : ℕ) (d : Core) (a : Answer) (k : Work) (old : Report) (m : ℕ) (new : Report) (e : Core) → n ≤ in_page va
     → Moved c (word_at base ram 8) va Read d a k → Tells (after_load (ended_of d a base ram va n)) k old m new e
     → Tells (after_load (read_of c base ram va n)) (read_work c base ram va n no_work) old m new e
-told c base ram va n d a k old m new e near moved t = grind (arith, as-told, ended-is, one-reads)
+told c base ram va n d a k old m new e near moved t = grind (arith, ended-is, one-reads)
 
 -- two pages by their hints
 module _ (c : Core) (base : ℕ) (ram : List ℕ) (va n pa pa2 v : ℕ) where

@@ -85,14 +85,14 @@ module _ (d : Core) (base : ℕ) (ram : List ℕ) (va n : ℕ) where
 
       pub end-outside : f ≡ false → va < 2 ^ 64 → record { core = record d { abort_pa = pa }; answer = Err (data_abort va true external) } ≡ by a
       unfolding store_end after_access
-      end-outside t h = grind (arith, mod-eq_of_lt, whole-outside)
+      end-outside t h = grind (arith, whole-outside)
 
 -- a store of one page, by its translation
 module _ (c : Core) (base : ℕ) (ram : List ℕ) (va n : ℕ) (near : n ≤ in_page va) (d : Core) (a : Answer) (k : Work)
     (moved : Moved c (word_at base ram 8) va Write d a k) where
   pub told : (old : Report) (m : ℕ) (new : Report) (e : Core) → Tells (after_store (stored_of d a base ram va n)) k old m new e
       → Tells (after_store (write_of c base ram va n)) (write_work c base ram va n no_work) old m new e
-  told old m new e t = grind (arith, as-told, stored-is, one-reads)
+  told old m new e t = grind (arith, stored-is, one-reads)
 
   pub put-told : (v : ℕ) (ys : List ℕ) → ys ≡ put_of a base ram va n v → ys ≡ ram_after_write c base ram va n v
   put-told v ys q = q ∙ put-is c base ram va n near d a moved.moved v
@@ -131,7 +131,3 @@ made c base ram va n v f ys e p = subst (λ (b : Bool). PutTwo c base ram va n v
 -- a store that was not
 pub kept : (c : Core) (base : ℕ) (ram : List ℕ) (va n v : ℕ) (f : Bool) (ys : List ℕ) → f ≡ false → PutTwo c base ram va n v f ys → ys ≡ ram
 kept c base ram va n v f ys e p = subst (λ (b : Bool). PutTwo c base ram va n v b ys) e p
-
--- two bytes, one in each page
-pub pair-is : (p : Pages) (w : Width) → w ≡ Half → 0 < p.in_page → p.in_page < bytes_in w → p ≡ pair_at p.pa p.pa2
-pair-is p w e some few = grind arith

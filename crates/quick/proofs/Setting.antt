@@ -63,7 +63,7 @@ module _ (c : Core) (k key v : ℕ) (ek : k ≡ key) where
       })
 
   register-refused : (x : Check) (n : ℕ) → number_of x ≡ missed → n ≡ number_of x → Sets (Known (Register key v)) c n c
-  unfolding run_work missed_of step_work
+  unfolding missed_of step_work
   register-refused x n e en = grind (arith, tells, refuses)
 
   pub register-high : 3 < c.privilege.level → Sets (Known (Register key v)) c 1 c

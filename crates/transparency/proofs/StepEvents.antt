@@ -1,6 +1,6 @@
 -- A step of a list, one that zeroes nothing, as the theory of histories has it: an event, and what it asks, invalidates
 -- and leaves.
-use Rattle.std.proofs.Common.{rules, sym, ap, ap₂, subst, ◌∙◌, arith, append_assoc}
+use Rattle.std.proofs.Common.{rules, sym, ap, ap₂, subst, ◌∙◌, arith}
 use Rattle.std.specs.Prelude.{◌≡◌, refl, List, [], ◌∷◌, ◌++◌, ℕ, Option, None}
 use Rattle.tlb.specs.Asks.{Ask}
 use Rattle.tlb.specs.Tlb.{fresh}

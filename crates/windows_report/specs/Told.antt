@@ -1,7 +1,6 @@
 -- What is told of a list: what the library finds, with the pages that two windows share and the address that faults; or why there is no report.
 use Rattle.std.specs.Prelude.{◌≡◌, ℕ, Bool, true, false, List, Option, Some, None, Result, Ok, Err}
 use Rattle.cpu.specs.declared.Core.{Core}
-use Rattle.cpu.specs.declared.check.Check.TheVariants as Check
 use Rattle.windows.specs.Window.{window}
 use Rattle.windows.specs.declared.{list.Window.Window, pages.PageFault.PageFault, Pair.Pair, WindowsError.WindowsError}
 use Rattle.windows.specs.declared.WindowsError.TheVariants as Error
@@ -29,10 +28,9 @@ IsTold (Ok (Some p)) (Found.Shared first second pages) = (first ≡ p.first) × 
 IsTold (Err (Error.Page e)) (Found.Fault number page va fault) = (number ≡ e.window) × (page ≡ e.page) × (fault ≡ e.fault)
 IsTold answer found = ⊥
 
--- the numbers 1, 2 and 9; memory may run out whatever the library finds
+-- the check that is missed, and a list that is wrong by its own numbers; memory may run out whatever the library finds
 abbrev pub IsRefused : List ℕ → Result (Option Pair) WindowsError → Refused → Type 0
-IsRefused list (Err (Error.Check Check.Level)) Refused.Level = Unit {0}
-IsRefused list (Err (Error.Check Check.Window)) Refused.Window = Unit {0}
+IsRefused list (Err (Error.Check missed)) (Refused.Check check) = check ≡ missed
 IsRefused list (Err (Error.List why)) (Refused.List refusal) = refusal ≡ refusal_of why list
 IsRefused list answer (Refused.Memory error) = Unit {0}
 IsRefused list answer why = ⊥

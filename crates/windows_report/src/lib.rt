@@ -6,3 +6,4 @@ pub mod refusal;
 pub mod report;
 pub mod run;
 pub mod shared;
+pub mod theorems;

@@ -72,18 +72,20 @@ pub struct Report {
 }
 
 /// Why there is no report.
-#[derive(Clone, Copy, Debug)]
+#[derive(Clone, Copy)]
 pub enum Refused {
-    /// the core's level is above 3
-    Level,
-    /// the window of RAM passes 2^64
-    Window,
+    /// a check that is missed: the core's level is above 3, or the window of RAM passes 2^64
+    Check(Check),
     /// the list is wrong
     List(Refusal),
     Memory(AllocError),
 }
 
 impl From<AllocError> for Refused {
+    ghost use Rattle.windows_report.specs.declared.report.Refused.TheVariants.{Memory};
+
+    ghost from_gives = { λ error why. why ≡ Memory error };
+
     fn from(error: AllocError) -> Self {
         Refused::Memory(error)
     }
@@ -202,8 +204,7 @@ impl Report {
             Ok(pair) => Ok(pair),
             Err(WindowsError::Page(page)) => Err(page),
             Err(WindowsError::List(why)) => return Err(Refused::List(Refusal::new(why, list))),
-            Err(WindowsError::Check(Check::Level)) => return Err(Refused::Level),
-            Err(WindowsError::Check(_)) => return Err(Refused::Window),
+            Err(WindowsError::Check(check)) => return Err(Refused::Check(check)),
         };
         let decoded = match WindowList::read(list) {
             Ok(decoded) => decoded,

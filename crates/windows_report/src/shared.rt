@@ -1,6 +1,6 @@
 //! The physical pages that two windows share.
-ghost use Rattle.std.specs.Prelude.{◌≡◌, IfOk};
-ghost use Rattle.windows_report.specs.Shared.{is_one, shared_from};
+ghost use Rattle.std.specs.Prelude.{◌≡◌, IfOk, position};
+ghost use Rattle.windows_report.specs.Shared.{is_one, shared_at, shared_from};
 
 use fault::Fault;
 use json_text::Hex;
@@ -25,6 +25,32 @@ fn is_one(page: Result<u64, Fault>, other: Result<u64, Fault>) -> bool
     }
 }
 
+// The first page of a window that is the same physical page.
+fn place_of(answer: Result<u64, Fault>, second: &[Result<u64, Fault>]) -> Option<usize>
+    ensures { result ≡ position (is_one answer) second.now }
+{
+    second.iter().position(|other| is_one(answer, *other))
+}
+
+impl Shared {
+    // A page of the first window, where the second has it too.
+    fn new(page: usize, answer: Result<u64, Fault>, second: &[Result<u64, Fault>]) -> Option<Self>
+        ensures { result ≡ shared_at second.now page answer }
+    {
+        let Ok(pa) = answer else {
+            return None;
+        };
+        match place_of(answer, second) {
+            Some(place) => Some(Shared {
+                pa: Hex(pa / 4096 * 4096),
+                page_of_first: page,
+                page_of_second: place,
+            }),
+            None => None,
+        }
+    }
+}
+
 /// The physical pages that are answered to pages of both windows.
 pub fn both(
     alloc: Global,
@@ -35,14 +61,8 @@ pub fn both(
 {
     let mut all = Vec::new(alloc);
     for (page, answer) in first.iter().enumerate() {
-        if let Ok(pa) = *answer {
-            if let Some(place) = second.iter().position(|other| is_one(*answer, *other)) {
-                all.push(Shared {
-                    pa: Hex(pa / 4096 * 4096),
-                    page_of_first: page,
-                    page_of_second: place,
-                })?;
-            }
+        if let Some(shared) = Shared::new(page, *answer, second) {
+            all.push(shared)?;
         }
     }
     Ok(all)

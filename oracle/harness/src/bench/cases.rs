@@ -29,6 +29,7 @@ fn plain_bar(work: Work) -> Option<f64> {
         Work::System([0, 8, ..]) => Some(1.0),
         Work::System(_) | Work::Register(_) | Work::Level | Work::Mark => Some(1.2),
         Work::General(_) | Work::DataAbort | Work::Svc => Some(1.2),
+        Work::Windows(Lists::Sixteen) => None,
         Work::Windows(_) => Some(WINDOWS),
         _ => Some(1.0),
     }
@@ -107,14 +108,15 @@ fn frames() -> Vec<Case> {
 }
 
 fn windows() -> Vec<Case> {
-    let windows = |name, lists| {
+    let windows = |name, bar: Option<f64>, lists| {
         let wide = Scene { wide: true, ..scene() };
-        case(name, WINDOWS, Work::Windows(lists), [0, 1], wide)
+        case(name, bar, Work::Windows(lists), [0, 1], wide)
     };
+    let bar = Some(WINDOWS);
     vec![
-        windows("windows: 64 of 16 pages, all apart", Lists::Apart),
-        windows("windows: 64 of 16 pages, the first meets", Lists::Meeting),
-        windows("windows: 16 of one page, all apart", Lists::Sixteen),
+        windows("windows: 64 of 16 pages, all apart", bar, Lists::Apart),
+        windows("windows: 64 of 16 pages, the first meets", bar, Lists::Meeting),
+        windows("windows: 16 of one page, all apart", None, Lists::Sixteen),
     ]
 }
 

@@ -42,10 +42,11 @@ fn fill<M: Memory + ?Sized>(
     Ok(())
 }
 
-/// Whether two windows have a page in common.
+/// Whether two windows have a page in common. It is looked for up to the second's end, as the proved text does.
 #[inline(always)]
 fn meet(a: &[u64], b: &[u64]) -> bool {
-    a.iter().any(|f| b.contains(f))
+    let has = |f: &u64| b.iter().fold(false, |found, g| found | (f == g));
+    a.iter().any(has)
 }
 
 /// What the windows of a right list come to.

@@ -6,8 +6,3 @@ pub hint_at-found-requires : goal.hint_at-found-requires
 hint_at-found-requires c =
     let half : c.data_slot.result < 256 = subst (λ (x : ℕ). x < 256) (sym c.data_slot.ensures.value) (low c.args.va) in
     omega (arith, half)
-
-pub returns : goal.returns
-returns c =
-    c.then_some.ensures
-    ∙ serves c.args.core.now c.args.va c.args.base c.args.len c.data_slot.result c.data_slot.ensures.value c.args.kind _ _ c.hint_at-found.ensures c.on_page.ensures

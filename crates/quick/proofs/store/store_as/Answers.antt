@@ -5,12 +5,6 @@ use Rattle.cpu.specs.Place.{in_page}
 use Rattle.quick.proofs.Checks.{stored, stored-ram, clear-sized, known}
 use Rattle.quick.proofs.store.store_as.Goals as goal
 
-pub by_hint-requires : goal.by_hint-requires
-by_hint-requires g c =
-    let n : c.bytes.result ≡ bytes_in g.W.Datum.WIDTH = c.bytes.ensures.value ∙ ap bytes_in c.WIDTH.ensures in
-    let near : bytes_in g.W.Datum.WIDTH ≤ in_page c.args.va = omega (arith, c.if-in_page-bytes.false, c.in_page.ensures.value, n) in
-    record { near = near }
-
 pub returns-else-ram-base : goal.returns-else-ram-base
 returns-else-ram-base g c =
     let low : c.args.core.now.privilege.level < 4 = omega (arith, c.if-core-gt3.false) in
