@@ -1,7 +1,7 @@
 //! The commands.
 use crate::arguments::{Arguments, Options};
 use crate::stop::{Stop, Wrong};
-use crate::{arguments, ranges, totals, usage, windows};
+use crate::{arguments, ranges, totals, usage, voice_windows};
 use census_report::report::{Census, Form};
 use chord::story::Story;
 use core_calls::settings;
@@ -270,7 +270,7 @@ pub fn carry_out<R: Files + Input + AllocGlobal, W: Write>(
         "walk" => walk(rt, out, arguments, rest),
         "census" => census(rt, out, arguments, rest, terminal),
         "ranges" => ranges::carry_out(rt, out, arguments, rest),
-        "windows" => windows::carry_out(rt, out, arguments, rest),
+        "windows" => voice_windows::carry_out(rt, out, arguments, rest),
         "frames" => totals::carry_out(rt.alloc(), out, arguments.options.json, rest),
         "chord" => chord(rt.alloc(), out, arguments.options.json, rest),
         "help" => help(rt.alloc(), out, arguments.options.json),

@@ -8,7 +8,7 @@ mod ranges;
 mod stop;
 mod totals;
 mod usage;
-mod windows;
+mod voice_windows;
 
 use arguments::Arguments;
 use std::io;

@@ -60,15 +60,17 @@ module _ (w : World) where
   unfolding broadcast model_retagged model_flushed invalidate retag
   run-alike [] c u = same_alike
   run-alike (steps m s ∷ xs) c u =
-      grind (arith,
-      (run-alike xs (after w s.effect c) (model_event w (steps m s) c u)),
-      same_alike,
-      then-alike,
-      asks-counts,
-      all_alike,
-      counted-append,
-      inval-alike,
-      u.counts)
+      grind (
+        arith,
+        (run-alike xs (after w s.effect c) (model_event w (steps m s) c u)),
+        same_alike,
+        then-alike,
+        asks-counts,
+        all_alike,
+        counted-append,
+        inval-alike,
+        u.counts,
+      )
   run-alike (receives v ∷ xs) c u =
       then-alike (run-alike xs c (invalidate v u)) (all_alike (made_run w c xs (invalidate v u)) (inval-alike v u))
 

@@ -13,7 +13,7 @@ use trace_text::words;
 const LONGEST_WINDOW: usize = 0x20_0000;
 
 // The code of a line with bytes of a list of windows.
-const BYTES: u64 = 64;
+const BYTES: u64 = 68;
 
 // No record has more lines.
 const LINES: u64 = 100_000_000;
@@ -56,7 +56,10 @@ impl<W: Write> Replay<'_, W> {
             return Err(Stop::Broken(Fault::NoSuchLine));
         }
         let words = op.iter().skip(2);
-        for byte in words.flat_map(|word| word.to_le_bytes()).take(count as usize) {
+        for byte in words
+            .flat_map(|word| word.to_le_bytes())
+            .take(count as usize)
+        {
             if !self.machine.add_byte(byte)? {
                 return Err(Stop::Broken(Fault::LongList));
             }

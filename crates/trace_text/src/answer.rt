@@ -96,13 +96,13 @@ impl fmt::Display for Answer {
             Answer::Counts { count, digest } => write!(f, "counts {count:x}:{digest:016x}"),
             Answer::Shared(Some(Pair { first, second })) => write!(f, "pair {first:x} {second:x}"),
             Answer::Shared(None) => f.write_str("none"),
-            Answer::Page(PageFault {
-                window,
-                page,
-                fault,
-            }) => {
-                write!(f, "page {window:x} {page:x} {:02x}", fault.fsc)
-            }
+            Answer::Page(
+                PageFault {
+                    window,
+                    page,
+                    fault,
+                },
+            ) => { write!(f, "page {window:x} {page:x} {:02x}", fault.fsc) }
         }
     }
 }

@@ -1,8 +1,9 @@
 //! What a line of a trace means: a line, nothing, or the place and the reason of a refusal.
 use crate::argument::{Argument, General, Key, Write};
 use crate::lex::{Word, Words};
-use crate::line::{LONGEST_BYTES, LONGEST_WINDOW};
-use crate::line::{Digits, Leaf, Line, Load, Operation, Part, Poke, Setup};
+use crate::line::{
+    Digits, LONGEST_BYTES, LONGEST_WINDOW, Leaf, Line, Load, Operation, Part, Poke, Setup,
+};
 use crate::names::ExceptionName;
 use crate::reason::{Reason, Refusal};
 use crate::{lex, names};

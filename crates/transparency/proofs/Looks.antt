@@ -14,7 +14,10 @@ use Rattle.transparency.specs.Bare.{bare_step}
 use Rattle.transparency.specs.Replies.{bare_reply}
 use Rattle.transparency.specs.Machine.{machine}
 use Rattle.transparency.proofs.Beside.{two-cores}
-use Rattle.transparency.specs.Looks.{look_reply, look_skipped}
+use Rattle.transparency.specs.Looks.{looking_calls, look_reply, look_skipped}
+
+pub looking-calls : looking_calls
+looking-calls first pages = grind arith
 
 -- after every list, refused or not
 reply-bare : (c : Core) (m : Ram) (x : Call) → looks x ≡ true

@@ -16,7 +16,7 @@ ghost use Rattle.transparency.specs.Beside.{abort_leaves, level_leaves, mark_lea
 ghost use Rattle.transparency.specs.Faithful.{every_list_shown, faithful_step};
 ghost use Rattle.transparency.specs.Direct.{translate_after, data_pa_after, fetch_pa_after};
 ghost use Rattle.transparency.specs.Direct.{access_after, load_after, store_after, fetch_after, zero_after};
-ghost use Rattle.transparency.specs.Looks.{look_reply, look_skipped};
+ghost use Rattle.transparency.specs.Looks.{looking_calls, look_reply, look_skipped};
 ghost use Rattle.transparency.specs.Census.{census_after, census_faults, rights_allow, flat_allows};
 ghost use Rattle.transparency.specs.Judged.{every_call_judged, every_row};
 ghost use Rattle.transparency.specs.Faults.{every_replied_fault};
@@ -136,6 +136,7 @@ pub fn parts_kept()
 /// A call that only looks, a census or windows, replies what the core without a cache would, and a list leaves what it
 /// leaves without it. Rules out one that fills the cache, or counts as a walk.
 pub fn every_look()
+    ensures which { looking_calls }
     ensures reply { look_reply }
     ensures skipped { look_skipped }
 {}

@@ -55,7 +55,14 @@ module _ (bytes : List ℕ) (n : ℕ) where
 
   pub decoded-none : Decoded 0 (replicate 64 none)
   unfolding table
-  decoded-none = record { right = least-zero wrong_at; same = refl; short = λ k l. rw (get_or-replicate 64 k none none l) (omega arith); within = λ k l. rw (get_or-replicate 64 k none none l) (omega arith); long = refl }
+  decoded-none =
+      record {
+        right = least-zero wrong_at;
+        same = refl;
+        short = λ k l. rw (get_or-replicate 64 k none none l) (omega arith);
+        within = λ k l. rw (get_or-replicate 64 k none none l) (omega arith);
+        long = refl;
+      }
 
   pub decoded-more : (i : ℕ) (ws : List Window) (w : Window) (x : Option Malformed) → Decoded i ws → i < 64 → w ≡ window_at bytes n i
       → x ≡ wrong_of i w → x ≡ None → Decoded (i + 1) (slice_set ws i w)

@@ -32,7 +32,7 @@ le-of-bytes (suc n) v rest h =
 
 -- a value of each window, in so many bytes, one after the other
 module _ (m : ℕ) (value : Window → ℕ) where
-  abbrev chunks : List Window → List ℕ
+  abbrev pub chunks : List Window → List ℕ
   chunks ws = flat_map (λ w. bytes_of m (value w)) ws
 
   length-chunks : (ws : List Window) → length (chunks ws) ≡ m * length ws

@@ -9,3 +9,5 @@ pub mod Whole
 pub mod Meaning
 pub mod RightLaws
 pub mod Encoding
+pub mod Written
+pub mod Answered

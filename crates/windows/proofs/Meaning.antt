@@ -1,5 +1,5 @@
 -- What an answer says of pages and windows.
-use Rattle.std.specs.Prelude.{if◌then◌else◌, ◌≡◌, refl, ℕ, zero, suc, ◌/◌, ◌<◌, ◌≤◌, ◌⊎◌, ◌==◌, ◌||◌, Bool, true, false, List, length, nat_lt, Option, Some, None, Ok, Err, filter_map}
+use Rattle.std.specs.Prelude.{if◌then◌else◌, ◌≡◌, refl, ℕ, zero, suc, ◌/◌, ◌<◌, ◌≤◌, ◌⊎◌, ◌==◌, ◌||◌, Bool, true, false, List, length, nat_lt, Option, Some, None, Ok, Err, filter_map, unwrap_or}
 use Rattle.std.specs.List.{list_any, cons_option}
 use Rattle.std.proofs.Common.{sym, ap, ◌∙◌, subst, inl, inr, not-suc-le-zero, arith}
 use borrow.Author.Tests.{lt-ltb, ltb-true, ltb-false, eqb-true, eq-eqb}
@@ -199,7 +199,7 @@ module _ {A : Type 0} where
       cons-keeps test (g (h 0)) _ (among-to test n g (λ j. h (suc j)) i a (omega arith) is e)
 
 frame-is : (x : Answer) (n : ℕ) → frame_in x ≡ Some n → (pa : ℕ) × (x ≡ Ok pa) × (pa / 4096 ≡ n)
-frame-is (Ok pa) n h = (pa, refl, cc)
+frame-is (Ok pa) n h = (pa, refl, ap (λ (o : Option ℕ). unwrap_or o 0) h)
 frame-is (Err f) n h = absurd (let z : ◌≡◌ {A = Option ℕ} None (Some n) = h in cc)
 
 module _ (control : Control) (level : ℕ) (memory : ℕ → Option ℕ) (ws : List Window) where

@@ -36,7 +36,9 @@ control sctlr =
 -- a page that may not be written, none, and the second page again.
 pub pages : List ℕ
 pages =
-    bytes_of 8 0x2003 ++ (bytes_of 8 0x80000403 ++ (bytes_of 8 0x80000403 ++ (bytes_of 8 0x80001403 ++ (bytes_of 8 0x80002483 ++ (bytes_of 8 0 ++ bytes_of 8 0x80001403)))))
+    bytes_of 8 0x2003
+    ++ (bytes_of 8 0x80000403
+    ++ (bytes_of 8 0x80000403 ++ (bytes_of 8 0x80001403 ++ (bytes_of 8 0x80002483 ++ (bytes_of 8 0 ++ bytes_of 8 0x80001403)))))
 
 -- the first three entries of the table: none, a block at 0x80000000, and the same block again
 pub blocks : List ℕ
@@ -103,14 +105,17 @@ worked-answers = (refl, refl, refl, refl, refl, refl, refl, refl, refl, refl, re
 -- BLOCKS AND STAGE 1 OFF
 --   windows 0 and 2 meet in a 2 MiB block through two addresses; the same at other places in the block
 --   stage 1 off: a page is its own; one beyond 2^44 is none, as the last page of all, where a window may end
+--   at EL2 and EL3, where stage 1 is off, each page of the windows of above is its own: another regime's answer
 abbrev pub WorkedBlocks : Type 0
 WorkedBlocks =
     (windows_of (control 1) 1 0x1000 blocks (bytes_of_windows (of 0x200000 2 ∷ of 0x210000 1 ∷ of 0x401000 1 ∷ [])) ≡ Ok (Some (pair 0 2)))
     × (windows_of (control 1) 1 0x1000 blocks (bytes_of_windows (of 0x200000 2 ∷ of 0x210000 1 ∷ of 0x402000 1 ∷ [])) ≡ Ok None)
     × (windows_of (control 0) 1 0x1000 blocks (bytes_of_windows (of 0x200000 2 ∷ of 0x400000 1 ∷ of 0x201000 1 ∷ [])) ≡ Ok (Some (pair 0 2)))
     × (windows_of (control 0) 1 0x1000 blocks (bytes_of_windows (of 0xFFFFFFFFFFFFF000 1 ∷ [])) ≡ faulting 0 0 0x00)
+    × (paged 2 (of 0x3FE00000 1 ∷ of 0x3FE02000 1 ∷ of 0x3FE01000 2 ∷ []) ≡ Ok (Some (pair 1 2)))
+    × (paged 3 (of 0x3FE00000 1 ∷ of 0x3FE02000 1 ∷ of 0x3FE01000 2 ∷ []) ≡ Ok (Some (pair 1 2)))
 
 pub worked-blocks : WorkedBlocks
-unfolding control blocks of faulting bytes_of_windows windows_of list_of found_in fresh_answer table fresh_of walk_of table_walk walk_range walk_from lookup_next
+unfolding control pages blocks of paged faulting bytes_of_windows windows_of list_of found_in fresh_answer table fresh_of walk_of table_walk walk_range walk_from lookup_next
     level_next leaf_result leaf_translation leaf_permissions table_next descaddr range_of params_of pa_size untagged word_at little_endian bytes_of
-worked-blocks = (refl, refl, refl, refl)
+worked-blocks = (refl, refl, refl, refl, refl, refl)

@@ -104,13 +104,19 @@ impl fmt::Display for Reason {
             Reason::Bytes { are, want } => write!(f, "bytes in all: {are}, not {want}"),
             Reason::Count(count) => write!(f, "{count} windows, at most 64 are allowed"),
             Reason::Start { window, start } => {
-                write!(f, "window {window} starts at {start:016x}, not on a page of 4 KiB")
+                write!(
+                    f,
+                    "window {window} starts at {start:016x}, not on a page of 4 KiB"
+                )
             }
             Reason::Pages { window, pages: 0 } => {
                 write!(f, "window {window} has no page, at least 1 is wanted")
             }
             Reason::Pages { window, pages } => {
-                write!(f, "window {window} has {pages} pages, at most 16 are allowed")
+                write!(
+                    f,
+                    "window {window} has {pages} pages, at most 16 are allowed"
+                )
             }
             Reason::End {
                 window,

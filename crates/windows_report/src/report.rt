@@ -148,10 +148,10 @@ fn rows(
 fn window(windows: &[Window], number: u64) -> Window
     ensures { result ≡ window windows.now number }
 {
-    windows.get(number as usize).copied().unwrap_or(Window {
-        start: 0,
-        pages: 0,
-    })
+    windows
+        .get(number as usize)
+        .copied()
+        .unwrap_or(Window { start: 0, pages: 0 })
 }
 
 // What the library finds, with the pages that two windows share, or the address that faults.
@@ -273,7 +273,11 @@ impl fmt::Display for Report {
                 pages,
             } => {
                 for page in pages {
-                    write!(f, "windows {first} and {second} share the physical page {:x}", page.pa.0)?;
+                    write!(
+                        f,
+                        "windows {first} and {second} share the physical page {:x}",
+                        page.pa.0
+                    )?;
                     let (one, other) = (page.page_of_first, page.page_of_second);
                     writeln!(f, " (page {one} of {first}, page {other} of {second})")?;
                 }

@@ -1,5 +1,5 @@
-use Rattle.transparency.proofs.Looks.{look-reply, look-skipped}
+use Rattle.transparency.proofs.Looks.{looking-calls, look-reply, look-skipped}
 use Rattle.transparency.proofs.theorems.every_look.Goals as goal
 
 pub returns : goal.returns
-returns c = assumption (look-reply, look-skipped)
+returns c = assumption (looking-calls, look-reply, look-skipped)

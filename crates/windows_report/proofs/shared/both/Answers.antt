@@ -12,7 +12,7 @@ loop-page-preserved c =
     let j = c.loop-page.page in
     let all = c.loop-page.all.items in
     elim c.match-new.branch [
-      in-Some+in_ok-push w ↦
+      | in-Some+in_ok-push w ↦
           rw (w.all-is, w.in_ok-push.ensures.items)
           (step f s all j _ (Some w.in-Some.shared) c.loop-page-test.true (sym w.in-Some.is ∙ c.new.ensures) c.loop-page.invariant)
       | in_default w ↦

@@ -2,10 +2,9 @@
 use crate::arguments::Arguments;
 use crate::stop::Stop;
 use crate::{arguments, commands};
-use std::fs;
-use std::io;
 use std::io::{Input, Read, Write};
 use std::rt::Files;
+use std::{fs, io};
 use trace_file::carry::Silent;
 use trace_file::run;
 use trace_text::line::LONGEST_LIST;
