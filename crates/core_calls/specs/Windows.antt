@@ -51,7 +51,7 @@ abbrev pub privileged : ℕ → ℕ
 privileged zero = 1
 privileged (suc level) = suc level
 
--- each page is answered as the core without a cache, unmarked and at such a level, would answer a store there
+-- each page is answered as the core without a cache, unmarked and at such a level, translates for a store there
 abbrev pub pages_as_stores : Type 0
 pages_as_stores =
     (b : Bare) (m : Ram) (w : Window) (j : ℕ)

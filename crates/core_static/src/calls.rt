@@ -5,8 +5,7 @@ ghost use Rattle.call_words.specs.declared.op.DecodedCall.TheVariants as Decoded
 ghost use Rattle.call_words.specs.Ops.{key_of, kind_of, encoding_of, exception_at};
 ghost use Rattle.call_words.specs.Ops.{abort_call, mark_call, call_of, translate_call};
 ghost use Rattle.call_words.specs.Walk.{walk_code, walk_words};
-ghost use Rattle.core_calls.specs.Promise.{Promise, Setting, StepPromise, CensusPromise};
-ghost use Rattle.core_calls.specs.Promise.{WindowsPromise};
+ghost use Rattle.core_calls.specs.Promise.{Promise, Setting, StepPromise, CensusPromise, WindowsPromise};
 
 use call_words::reply::Report;
 use core_calls::{inspect, memory, settings, step};

@@ -1,8 +1,7 @@
 -- Split accesses whose two parts lie in RAM, on plain values, for `search`.
 use Rattle.std.proofs.Common.{rules, ◌≡◌, ℕ, zero, suc, ◌+◌, ◌-◌, ◌*◌, ◌/◌, ◌^◌, ◌<◌, ◌≤◌, Bool, true, false, ◌&&◌, ltb, List, length}
-use Rattle.std.specs.Prelude.{Some, None, Ok}
+use Rattle.std.specs.Prelude.{Some, Ok}
 use Rattle.std.proofs.Common.{sym, refl, ap, ◌∙◌, mod-eq_of_lt, suc-add, pow-suc, zero-add, arith, take-append-drop, pow-add, shr-shr, ltb-false, ltb-true, le-ltb, lt-ltb, le-leb}
-use Rattle.word.specs.Bits.{wrap}
 use Rattle.word.specs.Ram.{within, written, stored, bytes_of}
 use Rattle.word.proofs.RamLaws.{digit-next, written_next}
 use Rattle.cpu.specs.Place.{byte_at, first_outside, verdict_of, Lie}

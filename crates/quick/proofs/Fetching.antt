@@ -21,7 +21,7 @@ use Rattle.cpu.specs.Work.{past_hint_work, fetch_work}
 use Rattle.tlb.specs.Work.{no_work}
 use Rattle.tlb.specs.declared.work.Work.{Work}
 use Rattle.call_words.specs.declared.reply.Report.{Report}
-use Rattle.quick.proofs.ByHint.{Past, as-told}
+use Rattle.quick.proofs.ByHint.{Past}
 use Rattle.quick.specs.Says.{Tells, fetched_of, reached_of, hint_left, fetch_run, fetch_ended}
 
 -- THE FETCH HINT

@@ -1,13 +1,12 @@
 -- A hint that is asked by one condition, on plain values.
-use Rattle.std.proofs.Common.{rules, refl, sym, ap, ◌∙◌, arith, subst, eqb-true}
+use Rattle.std.proofs.Common.{rules, refl, sym, ap, ◌∙◌, arith, subst}
 use Rattle.std.specs.Prelude.{if◌then◌else◌, ◌≡◌, ◌+◌, ◌-◌, ◌*◌, ◌/◌, ◌%◌, ◌^◌, ◌<◌, ◌≤◌, ◌&&◌, ◌||◌, eqb, leb, Bool, true, false, ℕ}
 use Rattle.std.specs.Prelude.{List, length, Option, Some, None, Result, Ok, Err, slice_index_or}
 use Rattle.std.specs.Bool.{then_some}
-use Rattle.std.proofs.lemmas.Bool.{lt-leb}
 use mir.Val.{bool_byte}
-use Rattle.tlb.specs.Hint.{place_of, data_slot, on_page, no_hint, fetch_found}
+use Rattle.tlb.specs.Hint.{place_of, data_slot, on_page, no_hint}
 use Rattle.tlb.specs.declared.access.Kind.TheVariants.{Read}
-use Rattle.tlb.specs.declared.{access.Kind.Kind, access.NoSuchKind.NoSuchKind, hint.Hint.Hint, hint.FetchHint.FetchHint}
+use Rattle.tlb.specs.declared.{access.Kind.Kind, access.NoSuchKind.NoSuchKind, hint.Hint.Hint}
 use Rattle.cpu.specs.declared.Core.{Core}
 use Rattle.tlb.specs.Translate.{hint_in}
 use Rattle.word.specs.Ram.{word_at}
@@ -20,7 +19,7 @@ use Rattle.tlb.specs.Work.{no_work}
 use Rattle.cpu.specs.declared.call.Reply.{Reply}
 use Rattle.call_words.specs.Replies.{code_by, value_by, reads_by}
 use Rattle.call_words.specs.declared.reply.Report.{Report}
-use Rattle.quick.specs.Says.{Says, Tells, unread, asked_reply, asked_run, ram_checked, plain, served, fetch_hint_of, fetch_served}
+use Rattle.quick.specs.Says.{Says, Tells, unread, asked_reply, asked_run, ram_checked, plain, served}
 use Rattle.quick.proofs.ByHint.{hint-moves, asked-told}
 use Rattle.quick.proofs.Checks.{ram-told, clear, translate-told, data-told}
 

@@ -1,7 +1,6 @@
 -- A load of one page, by its one translation, on plain values.
 use Rattle.std.proofs.Common.{rules, refl, sym, ap, ◌∙◌, arith}
 use Rattle.std.specs.Prelude.{◌≡◌, true, false, ◌^◌, ◌<◌, ◌≤◌, List, ℕ, Option, Some, None, Ok, Err}
-use native.Mathlib.Nat.{mod-eq_of_lt}
 use Rattle.word.specs.Ram.{word_at}
 use Rattle.walk.specs.Regime.{stage1_on}
 use Rattle.sysreg.specs.Regs.{regime_of}
@@ -26,7 +25,7 @@ use Rattle.cpu.specs.Work.{read_work}
 use Rattle.tlb.specs.Work.{no_work}
 use Rattle.tlb.specs.declared.work.Work.{Work}
 use Rattle.call_words.specs.declared.reply.Report.{Report}
-use Rattle.quick.proofs.ByHint.{Moved, hint-serves, as-told}
+use Rattle.quick.proofs.ByHint.{Moved, hint-serves}
 use Rattle.quick.proofs.Works.{one-reads}
 
 module _ (c : Core) (base : ℕ) (ram : List ℕ) (va n : ℕ) (near : n ≤ in_page va) where

@@ -1,8 +1,7 @@
 -- A store of one page, by its one translation, and of two by their hints, on plain values.
 use Rattle.std.proofs.Common.{rules, refl, sym, ap, ◌∙◌, arith, subst}
 use Rattle.std.specs.Prelude.{◌≡◌, length, Bool, true, false, ◌-◌, ◌^◌, ◌<◌, ◌≤◌, List, ℕ, Option, Some, Ok, Err}
-use native.Mathlib.Nat.{mod-eq_of_lt}
-use Rattle.word.specs.Ram.{word_at, within, stored, bytes_in}
+use Rattle.word.specs.Ram.{word_at, within, stored}
 use Rattle.walk.specs.Regime.{stage1_on}
 use Rattle.sysreg.specs.Regs.{regime_of}
 use Rattle.tlb.specs.Answers.{Answer}
@@ -17,20 +16,18 @@ use Rattle.cpu.specs.declared.Core.{Core}
 use Rattle.cpu.specs.Answers.{Verdict}
 use Rattle.cpu.specs.Place.{in_page, next_page, crosses}
 use Rattle.cpu.specs.Bytes.{store_ram}
-use Rattle.quick.specs.AtOnce.{both_inside, both_stored, pair_at}
+use Rattle.quick.specs.AtOnce.{both_inside, both_stored}
 use Rattle.cpu.specs.Ends.{data_abort, external, store_end, store_end_by, store_ram_end}
 use Rattle.cpu.specs.declared.place.Pages.{Pages}
 use Rattle.cpu.proofs.Moves.{whole-inside, whole-outside}
 use Rattle.quick.proofs.Both.{both-judged, both-stores}
-use Rattle.word.specs.declared.ram.Width.{Width}
-use Rattle.word.specs.declared.ram.Width.TheVariants.{Half}
 use Rattle.cpu.specs.Step.{after_store}
 use Rattle.quick.specs.Says.{Tells, PutTwo, stored_of, put_of}
 use Rattle.cpu.specs.Work.{write_work}
 use Rattle.tlb.specs.Work.{no_work}
 use Rattle.tlb.specs.declared.work.Work.{Work}
 use Rattle.call_words.specs.declared.reply.Report.{Report}
-use Rattle.quick.proofs.ByHint.{Moved, hint-serves, as-told}
+use Rattle.quick.proofs.ByHint.{Moved, hint-serves}
 use Rattle.quick.proofs.Works.{one-reads, two-read-none}
 use Rattle.quick.proofs.OnePage.{stays_in}
 

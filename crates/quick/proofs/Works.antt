@@ -1,6 +1,6 @@
 -- What an access reads: of one page its translation's descriptors, of two pages by their hints none.
 use Rattle.std.proofs.Common.{rules}
-use Rattle.std.proofs.Common.{arith, le-ltb}
+use Rattle.std.proofs.Common.{arith}
 use Rattle.std.specs.Prelude.{◌≡◌, ◌≤◌, Bool, true, false, ◌&&◌, ℕ, Option, Some}
 use Rattle.tlb.specs.Translate.{hint_in}
 use Rattle.tlb.specs.Work.{no_work}

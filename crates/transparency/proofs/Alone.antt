@@ -3,7 +3,6 @@ use Rattle.std.proofs.Common.{arith, rules, sym, ap, subst, ◌∙◌, append-ni
 use Rattle.std.specs.Prelude.{◌≡◌, refl, List, [], ◌∷◌, ◌++◌, ℕ, zero, suc, ◌+◌, ◌%◌, Option, Ok, Err}
 use Rattle.word.specs.Bits.{align_down, wrap}
 use Rattle.tlb.specs.Asks.{Ask, translates, Given}
-use Rattle.tlb.proofs.Asks.{onward-same}
 use Rattle.tlb.specs.declared.access.Kind.TheVariants as Kind
 use Rattle.tlb.specs.declared.Tlb.{Tlb}
 use Rattle.system.specs.declared.decode.SysOp.{SysOp}
@@ -24,7 +23,7 @@ use Rattle.transparency.specs.Events.{plain_in, zero_steps, sys_steps, steps_in,
 use Rattle.transparency.specs.Claim.{access_in, sized_in}
 use Rattle.transparency.specs.Starts.{ram_zeroed, zero_later, sys_later, later_of, later_in}
 use Rattle.transparency.specs.Steps.{on_done}
-use Rattle.transparency.specs.Replies.{Outcome, outcome, outcome_of, load_by_size, store_by_size, bare_answers, bare_zero_one}
+use Rattle.transparency.specs.Replies.{Outcome, outcome, outcome_of, load_by_size, bare_answers, bare_zero_one}
 use Rattle.transparency.specs.Says.{sys_says, call_says}
 use Rattle.transparency.specs.Replies.{bare_zero, bare_sys, bare_call, bare_reply}
 use Rattle.transparency.proofs.Bridge.{stored-bare, stored-tlb}
@@ -50,7 +49,7 @@ module _ (c : Core) (m : Ram) (va : ℕ) (al : va % 8 ≡ 0) where
   plain_given = record { ask = translates Kind.Write va; answer = uncached real (plain_in (bare_of c)) m Kind.Write va }
 
   first_plain : bare_answers (bare_of c) m (access_in (bare_of c) va 8 Kind.Write) ≡ plain_given ∷ []
-  first_plain = grind (arith, one-page, onward-same)
+  first_plain = search rules
 
   -- the first answers are equal, and so are the rest
   module _ (l k : List Given) (e : access_given c m va 8 Kind.Write ++ l ≡ plain_answers real (plain_in (bare_of c)) m (access_in (bare_of c) va 8 Kind.Write) ++ k) where
@@ -61,7 +60,7 @@ module _ (c : Core) (m : Ram) (va : ℕ) (al : va % 8 ≡ 0) where
     rest-same = cons_tail both
 
     one_same : outcome (storing (store_ends c m va)) (ram_zeroed c m va).bytes ≡ bare_zero_one (bare_of c) m va
-    one_same = grind (arith, store-answered, one-given, one-page, onward-same)
+    one_same = grind (arith, store-answered, one-given, one-page)
 
 zero-alone : (n : ℕ) (c : Core) (m : Ram) (va : ℕ) → va % 8 ≡ 0
     → zero_given (bare_of c) c.tlb m (zero_later n c m va) va ≡ zero_plain (bare_of c) m (zero_later n c m va) va
@@ -111,10 +110,6 @@ load-alone : (s : Option Width) (b : Bare) (m : Ram) (va : ℕ)
     → load_by_size s m va (plain_answers real (plain_in b) m (sized_in b va s Kind.Read) ++ []) ≡ load_by_size s m va (bare_answers b m (sized_in b va s Kind.Read))
 load-alone s b m va = ap (load_by_size s m va) (append-nil (plain_answers real (plain_in b) m (sized_in b va s Kind.Read)) ∙ answers-alone b m (sized_in b va s Kind.Read))
 
-store-alone : (s : Option Width) (b : Bare) (m : Ram) (va v : ℕ)
-    → store_by_size s m va v (plain_answers real (plain_in b) m (sized_in b va s Kind.Write) ++ []) ≡ store_by_size s m va v (bare_answers b m (sized_in b va s Kind.Write))
-store-alone s b m va v = ap (store_by_size s m va v) (append-nil (plain_answers real (plain_in b) m (sized_in b va s Kind.Write)) ∙ answers-alone b m (sized_in b va s Kind.Write))
-
 module _ (c : Core) (m : Ram) where
   abbrev b : Bare
   b = bare_of c
@@ -137,7 +132,7 @@ module _ (c : Core) (m : Ram) where
 
   call-alone : (x : Call) → with-cache (steps_in b m (later_of c m x) x) ≡ without (steps_in b m (later_of c m x) x)
       → call_says b m (later_of c m x) x (with-cache (steps_in b m (later_of c m x) x)) ≡ bare_call b m x
-  call-alone x h1 = search (rules, load-alone, store-alone, sys-alone)
+  call-alone x h1 = search (rules, load-alone, sys-alone)
 
   pub alone-same : (x : Call) → with-cache (events_in b m (later_in c m x) x) ≡ without (events_in b m (later_in c m x) x) → outcome_of c m x ≡ bare_reply b m x
   alone-same x h = search (rules, reply-is, call-alone)

@@ -4,7 +4,6 @@ use Rattle.std.specs.Prelude.{◌≡◌, Bool, false, List, [], ◌∷◌, ◌++
 use Rattle.std.proofs.Math.Path.{ap}
 use Rattle.word.specs.Bits.{align_down, wrap}
 use Rattle.tlb.specs.Asks.{translates, Given}
-use Rattle.tlb.proofs.Asks.{onward-same}
 use Rattle.tlb.specs.declared.access.Kind.TheVariants as Kind
 use Rattle.tlb.specs.declared.Tlb.{Tlb}
 use Rattle.tlb.specs.Answers.{Answer}
@@ -77,7 +76,7 @@ pub one-page : (on : Bool) (va : ℕ) → va % 8 ≡ 0 → crosses on va 8 ≡ f
 one-page on va e = grind arith
 
 pub next-aligned : (va : ℕ) → va % 8 ≡ 0 → wrap (va + 8) % 8 ≡ 0
-next-aligned va e = omega (arith, e)
+next-aligned va e = grind arith
 
 pub start-aligned : (x : ℕ) → align_down x 6 % 8 ≡ 0
 start-aligned x = omega arith
@@ -88,7 +87,7 @@ store_given b t m va = record { ask = translates Kind.Write va; answer = answer_
 
 pub one-given : (b : Bare) (t : Tlb) (m : Ram) (va : ℕ) → va % 8 ≡ 0
     → answers real (plain_in b) m (access_in b va 8 Kind.Write) t ≡ store_given b t m va ∷ []
-one-given b t m va e = grind (arith, one-page, onward-same)
+one-given b t m va e = search rules
 
 -- the store at va and n further ones
 abbrev pub zero_outcome : ℕ → Core → Ram → ℕ → Outcome
@@ -124,7 +123,7 @@ module _ (c : Core) (m : Ram) (va : ℕ) where
 
   more-said : (n : ℕ) → va % 8 ≡ 0 → ZeroSaid n core_then (ram_zeroed c m va) (wrap (va + 8)) → ZeroSaid (suc n) c m va
   unfolding zero_of zero_ram
-  more-said n al rest = search (rules, stored-bare, stored-tlb, one-given, store-answered, append-nil)
+  more-said n al rest = search (rules, stored-bare, stored-tlb, one-given, store-answered)
 
 pub zero-said : (n : ℕ) (c : Core) (m : Ram) (va : ℕ) → va % 8 ≡ 0 → ZeroSaid n c m va
 zero-said zero c m va al = one-outcome c m va ∙ last-said c m va
@@ -138,4 +137,4 @@ pub reply-is : (c : Core) (m : Ram) (x : Call)
     → outcome_of c m x
     ≡ says_in (bare_of c) m (later_in c m x) x (answers_run real (plain_in (bare_of c)) (events_in (bare_of c) m (later_in c m x) x) c.tlb)
 unfolding step_of ram_after run_of ram_of sys_of sys_ram reg_of after_register_write translate_of stepped_now fetch_stepped_now data_pa_of fetch_pa_of fetch_of translate_in translate_fetch_in
-reply-is c m x = search (rules, load-answered, append-nil, store-answered, fetch-end, zero-said, start-aligned)
+reply-is c m x = search (rules, load-answered, append-nil, store-answered, fetch-end, zero-said)

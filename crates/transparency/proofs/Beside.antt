@@ -2,15 +2,14 @@
 use Rattle.std.proofs.Common.{arith, rules, ap, subst, ◌∙◌}
 use Rattle.std.specs.Prelude.{◌≡◌, refl}
 use Rattle.cpu.specs.Bare.{Bare, fresh_bare, bare_of}
-use Rattle.cpu.specs.Core.{fresh_core, reg_of}
+use Rattle.cpu.specs.Core.{fresh_core}
 use Rattle.cpu.specs.Registers.{after_register_write}
 use Rattle.cpu.specs.System.{sys_of, sys_ram}
 use Rattle.cpu.specs.Step.{ends, run_of, ram_of, step_of, ram_after}
 use Rattle.history.specs.Calls.{bare_run}
 use Rattle.history.proofs.EveryCall.{run-bare as runs-agree}
 use Rattle.history.specs.Instance.{real}
-use Rattle.transparency.specs.Bare.{allowed}
-use Rattle.transparency.specs.Bare.{ruling_in, refusal_of}
+use Rattle.transparency.specs.Bare.{allowed, ruling_in, refusal_of}
 use Rattle.transparency.specs.Machine.{machine}
 use Rattle.transparency.proofs.Bridge.{bridge, fits}
 use Rattle.transparency.specs.Beside.{core_after}
@@ -63,7 +62,7 @@ refused-bare b m x refuses = grind arith
 -- A refused call leaves core, cache, counters and RAM as they are, and its reply is that refusal, by the state without
 -- a cache.
 pub refused-core : Statement.refused_core
-unfolding step_of ram_after run_of ram_of sys_of sys_ram reg_of after_register_write
+unfolding step_of ram_after run_of ram_of sys_of sys_ram after_register_write
 refused-core c m x refuses = search (rules)
 
 -- after every list it is the refusal of the core without a cache

@@ -16,7 +16,7 @@ use Rattle.system.specs.declared.decode.Encoding.{Encoding}
 use Rattle.cpu.specs.declared.call.Call.{Call}
 use Rattle.cpu.specs.Fit.{refit_of}
 use Rattle.cpu.specs.Registers.{with_regs as coreRegs, applied_of, registered, after_register_write, with_privilege as coreWho, set_level, set_mark, abort_of}
-use Rattle.cpu.specs.System.{with_par as corePar, at_of, invalidated_of, tlbi_core, zero_of, sys_by, sys_of}
+use Rattle.cpu.specs.System.{with_par as corePar, at_of, tlbi_core, zero_of, sys_by, sys_of}
 use Rattle.cpu.specs.Check.{missed_of}
 use Rattle.cpu.proofs.EveryCallEnds.{all-passed}
 use Rattle.cpu.specs.Step.{ends, load_by, store_by, run_of, refused_or, step_of}
@@ -84,7 +84,7 @@ module _ (c : Core) (m : Ram) (va : ℕ) where
   zero-last = grind (arith, stored-bare, stored-tlb)
 
   zero-next : (n : ℕ) → ZeroFits n stored.core (ram_zeroed c m va) (wrap (va + 8)) → ZeroFits (suc n) c m va
-  unfolding zero_of write_of after_access
+  unfolding zero_of after_access
   zero-next n rest = grind (arith, stored-tlb, stored-bare)
 
 zero-fits : (n : ℕ) (c : Core) (m : Ram) (va : ℕ)
@@ -99,7 +99,7 @@ sys-fits : (o : SysOp) (c : Core) (m : Ram) (e : Encoding)
     → Fits c (sys_by o c m.base m.bytes e.op1 e.crm e.op2 (operand_in (bare_of c) e)).core
     (if_allowed (by_sys o) (sys_does o (bare_of c) m (operand_in (bare_of c) e)) (bare_of c))
     (if_allowed (by_sys o) (sys_steps o (bare_of c) m (if_allowed (by_sys o) (sys_later o c m (operand_in (bare_of c) e)) []) e) (steps m idle ∷ []))
-unfolding at_of corePar tlbi_core invalidated_of after_access
+unfolding at_of corePar tlbi_core after_access
 sys-fits o c m e = grind (arith, zero-fits, fits-idle)
 
 -- REGISTER WRITES

@@ -4,7 +4,6 @@
 -- `step_of` and `ram_after` make of a call that misses no check.
 use Rattle.std.proofs.Common.{rules, sym, ap, ◌∙◌, arith}
 use Rattle.std.specs.Prelude.{◌≡◌, refl, false, slice_index, Err, List, [], ◌∷◌, ◌++◌, ℕ, ◌+◌, ◌^◌, ◌≤◌, ◌<◌, Ok}
-use borrow.Author.Tests.{le-ltb}
 use Rattle.std.proofs.Math.ListN.{length}
 use Rattle.walk.proofs.TagLaws.{untagged-plus}
 use Rattle.word.specs.Ram.{word_at}
@@ -59,7 +58,7 @@ module _ (list : List (Fed real machine)) (seen : Shown real machine fresh_core 
   -- a translation after the list is a call that misses no check
   passed : (m.base + length m.bytes ≤ 2 ^ 64) → (kind : Kind) (va : ℕ) → missed_in (bare_of (core_now list)) m (Translate kind va) ≡ 0
   unfolding missed_of
-  passed room kind va = grind (arith, le-ltb, length, every-core-well)
+  passed room kind va = grind (arith, length, every-core-well)
 
 -- EACH BYTE
 

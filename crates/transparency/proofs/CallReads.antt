@@ -32,7 +32,6 @@ use Rattle.transparency.specs.Reads as Statement
 use Rattle.transparency.specs.Reads.{reads_on, op_reads, own_reads, Reads}
 use Rattle.transparency.specs.Beside.{EveryCall}
 use Rattle.transparency.proofs.Beside.{two-cores}
-use Rattle.transparency.proofs.LevelCounts.{events-none, refused_none}
 use Rattle.transparency.proofs.ModelCalls.{low-now, every-list-modelled}
 use Rattle.history.proofs.Instance.{real-laws}
 use Rattle.transparency.specs.Bare.{Ruling, allowed, op_in, operand_in, ruling_in, if_allowed}
@@ -89,10 +88,10 @@ module _ (b : Bare) where
   two-pages va n kind = grind arith
 
   sized-few : (m : Ram) (va : ℕ) (s : Option Width) (kind : Kind) (u : Model) → Few (steps m (asking (sized_in b va s kind)) ∷ []) u 64
-  sized-few m va s kind u = grind (arith, one-few, two-pages)
+  sized-few m va s kind u = grind (arith, one-few)
 
   zero-few : (m : Ram) (ms : List Ram) (va : ℕ) (u : Model) → Few (zero_steps b m ms va) u (8 * length (m ∷ ms))
-  zero-few m [] va u = search (rules, reads-append, walk-few)
+  zero-few m [] va u = search (rules, walk-few)
   zero-few m (n ∷ ms) va u =
       let next = model_event real (steps m (asking (access_in b va 8 Kind.Write))) (plain_in b) u in
       let split = reads-append (made_in real (plain_in b) m (access_in b va 8 Kind.Write) u)
@@ -138,17 +137,17 @@ module _ (b : Bare) (m : Ram) (x : Call) (s : List (Event real)) (t : Tlb) (u : 
 
   sum-reads : (r : Ruling) → Adds (worked r) no_work (total r) → total r ≤ 64
       → (if_allowed r (own_walked b m x (worked r)) no_work).reads ≡ total r + if_allowed r (own_reads b m x) 0
-  sum-reads r h1 h2 = grind (arith, then-adds, own_walked, adds-none, adds-small, fresh-few)
+  sum-reads r h1 h2 = grind (arith, then-adds, adds-none, adds-small, fresh-few)
 
 pub call-reads : EveryCall Statement.call_reads
 call-reads list m x =
-    search (rules, own_walked, works_run, two-cores, step-did, sum-reads, run-adds, real-laws, low-now, every-list-modelled, few-events, few-later)
+    search (rules, works_run, two-cores, step-did, sum-reads, run-adds, real-laws, low-now, every-list-modelled, few-events, few-later)
 
 pub at-reads : Statement.at_reads
 at-reads c m e form passed named = grind (arith, step-did, fresh-few)
 
 pub refused-reads : Statement.refused_reads
-refused-reads list m x refused = grind (arith, call-reads, refused_none)
+refused-reads list m x refused = grind (arith, call-reads)
 
 pub quiet-reads : Statement.quiet_reads
-quiet-reads list m x quiet no-at = grind (arith, call-reads, events-none)
+quiet-reads list m x quiet no-at = grind (arith, call-reads)

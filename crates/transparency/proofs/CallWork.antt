@@ -8,7 +8,6 @@ use Rattle.tlb.proofs.Asks.{onward-same}
 use Rattle.tlb.specs.Work.{read_more}
 use Rattle.tlb.specs.declared.access.Kind.{Kind}
 use Rattle.tlb.specs.declared.{work.Work.Work}
-use Rattle.sysreg.specs.Write.{WriteAnswer}
 use Rattle.system.specs.declared.{decode.SysOp.SysOp}
 use Rattle.system.specs.declared.decode.SysOp.TheVariants as Op
 use Rattle.system.specs.declared.decode.Encoding.{Encoding}
@@ -26,7 +25,7 @@ use Rattle.history.specs.History.{Event, steps}
 use Rattle.history.specs.Instance.{Ram, real}
 use Rattle.history.proofs.Works.{works_run}
 use Rattle.transparency.specs.Reads.{op_reads}
-use Rattle.transparency.specs.Bare.{Ruling, by_sys, by_write, op_in, operand_in, ruled_in, ruling_in, if_allowed}
+use Rattle.transparency.specs.Bare.{by_sys, op_in, operand_in, ruled_in, ruling_in, if_allowed}
 use Rattle.transparency.specs.Claim.{sized_in}
 use Rattle.transparency.specs.Events.{plain_in, asking, zero_steps, sys_steps, steps_in, events_in}
 use Rattle.transparency.specs.Starts.{ram_zeroed, zero_later, sys_later, later_of, later_in}
@@ -68,7 +67,7 @@ module _ (c : Core) (m : Ram) (va : ℕ) (v : Work) where
 
   zero-next : (n : ℕ) → ZeroDid n stored.core (ram_zeroed c m va) (wrap (va + 8)) first → ZeroDid (suc n) c m va v
   unfolding zero_work access_work write_of after_access
-  zero-next n rest = grind (arith, works_run, stored-tlb)
+  zero-next n rest = grind (arith, stored-tlb)
 
 zero-did : (n : ℕ) (c : Core) (m : Ram) (va : ℕ) (v : Work)
     → zero_work (suc n) c m.base m.bytes va v ≡ did c (zero_steps (bare_of c) m (zero_later n c m va) va) v
@@ -97,9 +96,6 @@ sys-did o c m e v = grind (arith, zero-did)
 
 -- EVERY CALL
 
-write-did : (a : WriteAnswer) (v : Work) → v ≡ if_allowed (by_write a) v v
-write-did a v = grind arith
-
 -- what a call did that misses no check
 run-did : (c : Core) (m : Ram) (x : Call) (v : Work)
     → run_work c m.base m.bytes x v
@@ -107,15 +103,10 @@ run-did : (c : Core) (m : Ram) (x : Call) (v : Work)
     (own_walked (bare_of c) m x (did c (steps_in (bare_of c) m (if_allowed (ruled_in (bare_of c) x) (later_of c m x) []) x) v))
     v
 unfolding run_work translate_work fetch_work sys_work reg_of
-run-did c m x v = grind (arith, one-did, load-did, store-did, sys-did, write-did)
-
--- of one that is refused the steps that it would have do not matter
-refused-did : (r : Ruling) (c : Core) (f : Work → Work) (es other : List (Event real)) (v : Work)
-    → if_allowed r (f (did c es v)) v ≡ if_allowed r (f (did c (if_allowed r es other) v)) v
-refused-did r c f es other v = grind arith
+run-did c m x v = grind (arith, one-did, load-did, store-did, sys-did)
 
 pub step-did : (c : Core) (m : Ram) (x : Call) (v : Work)
     → step_work c m.base m.bytes x v
     ≡ if_allowed (ruling_in (bare_of c) m x) (own_walked (bare_of c) m x (did c (events_in (bare_of c) m (later_in c m x) x) v)) v
 unfolding step_work
-step-did c m x v = grind (arith, run-did, refused-did)
+step-did c m x v = grind (arith, run-did)

@@ -4,7 +4,6 @@ use Rattle.std.specs.Prelude.{◌≡◌, true, List, ℕ, ◌/◌, ◌%◌, ◌<
 use Rattle.walk.specs.WalkBounds.{SoundFresh}
 use Rattle.walk.specs.declared.{fresh.Fresh.Fresh}
 use Rattle.census.specs.Tally.{how_many}
-use Rattle.census.proofs.TallyLaws.{many-same}
 use Rattle.census.specs.Count.{page_at, census_at}
 use Rattle.census.specs.Laws.{faults_with, has_rights}
 use Rattle.census.proofs.Laws.{sound-at, status-count}
@@ -38,8 +37,7 @@ fresh-answers status bit va h1 x h2 = grind arith
 status-faults : (b : Bare) (m : Ram) (first pages status : ℕ) (k : Kind) → status < 64 → NoPermission status
     → get_or (census_at b.control b.privilege.level (memory_of m) first pages) status 0
     ≡ how_many (λ i. answers_fault status (uncached real (plain_in b) m k (page_at first i))) pages
-status-faults b m first pages status k small h =
-    search (rules, status-count, many-same, fresh-answers, sound-at, uncached-end)
+status-faults b m first pages status k small h = search (rules, status-count, fresh-answers, sound-at, uncached-end)
 
 -- Under a status stand the pages of which the core without a cache answers an access of any kind with that fault.
 pub census-faults : Statement.census_faults

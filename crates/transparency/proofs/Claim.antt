@@ -29,7 +29,7 @@ use Rattle.history.specs.Invisible.{Tidy}
 use Rattle.transparency.specs.Says.{answered_step}
 use Rattle.transparency.proofs.Answered.{reply-is}
 use Rattle.transparency.proofs.Instance.{every-translation, every-reply}
-use Rattle.transparency.proofs.StepEvents.{events, later-none, core-same, bare-same, shown-feeds, made, plain-many, drops-many, events-append}
+use Rattle.transparency.proofs.StepEvents.{events, core-same, bare-same, shown-feeds, made, plain-many, drops-many, events-append}
 use Rattle.transparency.proofs.Steps.{Apart, apart-left, apart-right, both-run, steps-apart}
 
 -- COVERING
@@ -198,7 +198,7 @@ module _ (before : List Step) (s : Step) (a : Apart fresh_bare before) (z : zero
   done = (made b s z).done
 
   fed : [] ≡ later_in (run real machine fresh_core (lent_of real machine (feeds before))) s.ram s.call
-  fed = grind (arith, later-none, core-same, both)
+  fed = grind (arith, core-same, both)
 
   from-theory : Each (Says (plain_in b) (events fresh_bare before ++ [])) (answers real (plain_in b) s.ram done.asks c.tlb)
   unfolding fresh_core
@@ -235,7 +235,7 @@ every-list list before s later split =
 -- REPLIES
 
 pub answered-step : answered_step
-answered-step c s z = search (rules, made, reply-is, later-none, append-nil)
+answered-step c s z = search (rules, made, reply-is, append-nil)
 
 module _ (before : List Step) (s : Step) (a : Apart fresh_bare before) (z : zeroed (bare_run fresh_bare before) s.ram s.call ≡ None) where
   abbrev here : Bare

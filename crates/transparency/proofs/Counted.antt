@@ -14,7 +14,6 @@ use Rattle.tlb.proofs.Counting.{translate-counts, fetch-counts}
 use Rattle.tlb.specs.Live.{counters_of, pending_of, live}
 use Rattle.tlb.proofs.Levels.{counters-tell}
 use Rattle.tlb.specs.Asks.{Ask, translates, fetches}
-use Rattle.tlb.proofs.Asks.{onward-same}
 use Rattle.tlb.specs.declared.{access.Kind.Kind, Inval.Inval, Tlb.Tlb}
 use Rattle.system.specs.declared.decode.SysOp.TheVariants as Op
 use Rattle.cpu.specs.Bare.{Bare}
@@ -27,7 +26,6 @@ use Rattle.history.specs.Calls.{Lent}
 use Rattle.history.specs.Instance.{Ram, real}
 use Rattle.transparency.specs.Bare.{missed_in, op_in, written_in}
 use Rattle.transparency.specs.Events.{plain_in, does, asking, inval_in, shared_in}
-use Rattle.transparency.proofs.Bridge.{tlbi-event}
 use Rattle.transparency.specs.Machine.{machine}
 use Rattle.transparency.specs.Beside.{core_after, bare_after}
 use Rattle.transparency.proofs.Beside.{two-cores}
@@ -67,7 +65,7 @@ module _ (list : List (Lent real machine)) (m : Ram) where
 
   one-counted : (x : Call) (a : Ask) → events_after list m x ≡ steps m (asking (a ∷ [])) ∷ []
       → counters_of (tlb_after_call list m x) ≡ how_counted (how_answered list m a) level (counters_of now)
-  one-counted x a e = grind (arith, one-step, onward-same, translation-counts, model-counts)
+  one-counted x a e = grind (arith, one-step, translation-counts, model-counts)
 
   -- One that a line of the model answers counts one in `hits` of the core's level, one that is walked one in `walks` of
   -- it, whether it faults or not; a hint, and the address itself with stage 1 off, count nothing.
@@ -96,7 +94,7 @@ module _ (list : List (Lent real machine)) (m : Ram) where
     carried shared = model_after real (carries what shared) (plain_in (bare_after list)) model
 
     tlbi-model : live then ≡ carried (shared_in e)
-    tlbi-model = grind (arith, one-step, tlbi-event)
+    tlbi-model = grind (arith, one-step)
 
     carried-counts : (shared : Bool) → (carried shared).counts ≡ inval_counted what model.counts
     unfolding invalidate broadcast
@@ -125,7 +123,7 @@ module _ (list : List (Lent real machine)) (m : Ram) where
     -- form, whose CRm is 3
     pub shared-pending : Statement.shared_pending list m e passed named
     unfolding invalidate broadcast
-    shared-pending q = grind (arith, tlbi-model, eq-eqb, model-pending)
+    shared-pending q = grind (arith, tlbi-model, model-pending)
 
     -- every other form leaves what is pending
     pub own-pending : Statement.own_pending list m e passed named
@@ -160,9 +158,9 @@ module _ (list : List (Lent real machine)) (m : Ram) where
     -- `shaping` alone: a flush, one in `flushes` and one in `epoch`
     pub write-flushes : Statement.write_flushes list m key value passed done
     unfolding model_retagged model_flushed invalidate
-    write-flushes shape asid = grind (arith, eqb, eq-eqb, asid-now, write-modelled, model-counts)
+    write-flushes shape asid = grind (arith, eqb, asid-now, write-modelled, model-counts)
 
     -- the ASID alone: a retag, one in `epoch`
     pub write-retags : Statement.write_retags list m key value passed done
     unfolding model_retagged model_flushed retag
-    write-retags shape differs = grind (arith, eqb, ne_eqb, asid-now, write-modelled, model-counts)
+    write-retags shape differs = grind (arith, eqb, asid-now, write-modelled, model-counts)

@@ -1,6 +1,6 @@
 -- Faithfulness of each call that translates, read off `step_of` itself: where the pages meet the premise it has the same
 -- physical address, the same fault with its status and address, and the same bytes as on the core without a cache.
-use Rattle.std.specs.Prelude.{if◌then◌else◌, ◌≡◌, Bool, List, [], ◌∷◌, ℕ}
+use Rattle.std.specs.Prelude.{◌≡◌, List, [], ◌∷◌, ℕ}
 use Rattle.std.proofs.Math.Path.{refl, sym, ap}
 use Rattle.std.proofs.Common.{ap₂, subst, ◌∙◌, append-nil, arith}
 use Rattle.word.specs.Bits.{align_down}
@@ -13,9 +13,8 @@ use Rattle.tlb.specs.Answers.{Answer}
 use Rattle.cpu.specs.Answers.{Placed}
 use Rattle.cpu.specs.Bare.{Bare, fresh_bare, bare_of}
 use Rattle.cpu.specs.Core.{fresh_core}
-use Rattle.cpu.specs.Place.{next_page, placed_one, placed_both}
 use Rattle.cpu.specs.Translations.{translate_in, translate_fetch_in}
-use Rattle.cpu.specs.Asks.{asks_by, first_of, placed_from}
+use Rattle.cpu.specs.Asks.{first_of, placed_from}
 use Rattle.cpu.specs.Ends.{reached_by, store_end, store_ram_end, fetch_end}
 use Rattle.cpu.specs.Memory.{stepped_now, fetch_stepped_now, translate_of, fetch_pa_of, data_pa_of, fetch_of}
 use Rattle.cpu.specs.OpLaws.{placed_by}
@@ -90,15 +89,10 @@ module _ (list : List (Fed real machine)) (seen : Shown real machine fresh_core 
 
   -- ACCESSES
 
-  placed-plain : (c : Bool) (va : ℕ) (kind : Kind)
-      → placed_from va (plain_answers real (plain_in (bare_now list)) m (asks_by c va kind))
-      ≡ (if c then placed_both va (uncached_at list m kind va) (uncached_at list m kind (next_page va)) else placed_one va (uncached_at list m kind va))
-  placed-plain c va kind = grind arith
-
   -- where an access lies
   given-placed : (va n : ℕ) (kind : Kind) → SettledOver list m va n kind
       → placed_from va (answers real (plain_in (bare_of (core_now list))) m (access_in (bare_of (core_now list)) va n kind) (core_now list).tlb) ≡ placed_at list m va n kind
-  given-placed va n kind ss = grind (arith, two-cores, given-after, placed-plain)
+  given-placed va n kind ss = grind (arith, two-cores, given-after)
 
   -- the same physical addresses, or the same fault
   pub access-after : Statement.access_after list m

@@ -65,7 +65,7 @@ first-outside base len p i (suc n) j pa e = go (within base len 1 (byte_at p i))
 
 byte_low : (base len : ℕ) (place : Place) (n j pa : ℕ) → 0 < n → verdict_of base len place n ≡ Err (outside_at j pa) → j < n
 unfolding verdict_of
-byte_low base len place n j pa h1 h2 = grind (arith, same-outside, first-outside)
+byte_low base len place n j pa h1 h2 = grind (arith, first-outside)
 
 -- AN ACCESS of n bytes: a fault is that of one of its translations, and a place begins where the first was allowed, as does the first page where the
 -- second faults
@@ -123,7 +123,7 @@ module _ (va n : ℕ) (kind : Kind) where
 
   pub answers-placed : (c : Bool) → (c ≡ true → in_page va < n) → (q : Plain real) (m : Ram) (t : Tlb)
       → PlacedFrom va n (answers real q m (asks_by c va kind) t)
-  answers-placed false close q m t = grind (arith, onward-same, placed_one, placed-two)
+  answers-placed false close q m t = grind (arith, onward-same, placed_one)
   answers-placed true close q m t =
       go (answer_of real q m (translates kind va) t)
       (answer_of real q m (translates kind (next_page va)) (tlb_ask real q m (translates kind va) t))

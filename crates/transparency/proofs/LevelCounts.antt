@@ -2,9 +2,8 @@
 -- the access, which `unprivileged` does not lower. Their sums, wrapped at 2^64, are the Rust's two counters. Which translations a list made, at which
 -- level, and how each was answered is read from the plain model, on the events of the list (Events.antt; RAM at a zeroing's
 -- later stores as the run shows it: Starts.antt).
-use Rattle.std.proofs.Common.{rules}
+use Rattle.std.proofs.Common.{rules, sym, ap, subst, ◌∙◌, arith}
 use Rattle.std.specs.Prelude.{◌≡◌, true, List, [], ◌∷◌, ℕ, ◌+◌, ◌%◌, ◌^◌, ◌<◌}
-use Rattle.std.proofs.Common.{sym, ap, subst, ◌∙◌, arith}
 use Rattle.word.specs.Bits.{align_down, wrap}
 use Rattle.word.specs.Ram.{width_of}
 use Rattle.tlb.specs.Asks.{translates, fetches}

@@ -47,18 +47,14 @@ module _ (list : List (Lent real machine)) where
       subst (λ (l : List (Lent real machine)). plain_in (bare_of (core_after l)) ≡ plain_run real (plain_in fresh_bare) (events_by list))
       (shown-lent real machine fresh_core list) (run-plain real machine bridge fresh_core (fed_by list) (shown-shown real machine fresh_core list))
 
-  fresh-low : (plain_in fresh_bare).privilege.level ≤ 3
-  fresh-low = omega arith
-
   pub every-list-modelled : StandsFor (core_after list).tlb (model_after_list list)
-  every-list-modelled = search (rules, tlb-run, run-stands, real-laws, fresh-low, fresh-stands)
+  every-list-modelled = search (rules, tlb-run, run-stands, real-laws, fresh-stands)
 
 -- EVERY CORE THAT CALLS REACH: its level is 3 at most, its cache is well-formed, and the cache's ASID is that of the
 -- registers.
 
 pub every-core-well : Statement.every_core_well
-every-core-well list =
-    grind (arith, plain-run, run-low, fresh-low, tlb-run, history-well, real-laws, fresh-asid, history-asid)
+every-core-well list = grind (arith, plain-run, run-low, tlb-run, history-well, real-laws, fresh-asid, history-asid)
 
 module _ (list : List (Lent real machine)) (m : Ram) (x : Call) where
   pub low-now : (plain_in (bare_after list)).privilege.level ≤ 3

@@ -36,7 +36,7 @@ module _ (control : Control) (level : ℕ) (memory : ℕ → Option ℕ) (ws : L
     pub other_reached : answer_at k other ≡ Ok pb
     pub same : pa / 4096 ≡ pb / 4096
 
--- a fact of every right list's windows under any registers, level and memory: of the answer, how each page ends, and which windows share one
+-- a fact of any windows under any registers, level and memory: of the answer, how each page ends, and which windows share one
 abbrev pub EachAnswer : (List Window → Found → (ℕ → ℕ → Answer) → (ℕ → ℕ → Type 0) → Type 0) → Type 0
 EachAnswer P =
     (control : Control) (level : ℕ) (memory : ℕ → Option ℕ) (ws : List Window)

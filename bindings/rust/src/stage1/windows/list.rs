@@ -1,6 +1,6 @@
 // Written by tools/plain from crates/windows/src/list.rt: change that.
-//! A list of windows, decoded: all little-endian, a count of two bytes, that many first addresses of eight, and then that
-//! many lengths in pages of two.
+//! A list of windows, decoded: all little-endian, a count of two bytes, that many first addresses of eight, and then
+//! that many lengths in pages of two.
 
 use crate::stage1::word::ram::{self, Width};
 
@@ -21,8 +21,8 @@ pub struct Window {
 
 const NO_WINDOW: Window = Window { start: 0, pages: 0 };
 
-/// Why a list is not right. The first that holds, in this order, is told; the last three of the first window of which one
-/// holds.
+/// Why a list is not right: the first reason that holds, in the order in which a list is read. The last three are of one
+/// window.
 #[derive(Clone, Copy, PartialEq, Eq, Debug)]
 pub enum Malformed {
     /// It has fewer than two bytes, or not two and ten for each window.

@@ -17,8 +17,8 @@ pub struct PageFault {
     pub fault: Fault,
 }
 
-/// The physical page of each page of each window: an address divided by 4096. A row belongs to the window of its number,
-/// and begins with its pages.
+/// The physical page of each page of each window: an address divided by 4096. A row belongs to the window of its
+/// number, and begins with its pages.
 pub type PhysicalPages = [[u64; MOST_PAGES]; MOST_WINDOWS];
 
 /// The physical pages of one window.

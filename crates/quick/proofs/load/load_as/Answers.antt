@@ -1,7 +1,4 @@
-use Rattle.std.specs.Prelude.{◌≡◌}
-use Rattle.std.proofs.Common.{◌<◌, ◌≤◌, ◌-◌, ◌^◌, length, ap, ◌∙◌, arith}
-use Rattle.word.specs.Ram.{bytes_in}
-use Rattle.cpu.specs.Place.{in_page}
+use Rattle.std.proofs.Common.{◌<◌, ◌≤◌, ◌-◌, ◌^◌, length, arith}
 use Rattle.quick.proofs.Checks.{loaded, clear-sized, known}
 use Rattle.quick.proofs.load.load_as.Goals as goal
 

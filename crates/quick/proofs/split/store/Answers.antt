@@ -1,29 +1,7 @@
-use Rattle.std.proofs.Common.{◌≡◌, ◌<◌, ◌^◌, ℕ, Bool, List, length, true, Some, sym, ap, ◌∙◌, arith}
-use Rattle.word.specs.Ram.{bytes_in}
-use Rattle.walk.specs.Regime.{stage1_on}
-use Rattle.sysreg.specs.Regs.{regime_of}
-use Rattle.tlb.specs.Translate.{hint_in}
-use Rattle.tlb.specs.declared.access.Kind.TheVariants.{Write}
-use Rattle.cpu.specs.Core.{bank_now}
-use Rattle.cpu.specs.Place.{next_page, crosses}
-use Rattle.quick.specs.AtOnce.{both_inside, both_stored}
+use Rattle.std.proofs.Common.{rules}
 use Rattle.quick.proofs.Hinting.{plainly}
 use Rattle.quick.proofs.OneStore.{put-two}
 use Rattle.quick.proofs.split.store.Goals as goal
 
 pub returns-in-Some-served : goal.returns-in-Some-served
-returns-in-Some-served c =
-    let long : length c.args.ram.now < 2 ^ 64 = omega arith in
-    let on : c.stage1_on-on.result ≡ stage1_on (bank_now c.args.core.now) (regime_of c.args.core.now.privilege.level)
-    = c.stage1_on-on.ensures ∙ (λ i. stage1_on (c.bank.ensures i) (c.regime.ensures i)) in
-    let k : crosses (stage1_on (bank_now c.args.core.now) (regime_of c.args.core.now.privilege.level)) c.args.va (bytes_in c.args.width) ≡ true =
-    sym (ap (λ (x : Bool). crosses x c.args.va (bytes_in c.args.width)) on)
-    ∙ sym (ap (λ (n : ℕ). crosses c.stage1_on-on.result c.args.va n) c.bytes.ensures.value) ∙ sym c.crosses.ensures ∙ c.if-crosses.true in
-    let s = plainly c.args.core.now c.args.base (length c.args.ram.now) _ c.in-Some.pa (sym c.served.ensures ∙ c.in-Some.is) in
-    let s2 = plainly c.args.core.now c.args.base (length c.args.ram.now) _ c.in-Some-served.pa2 (sym c.served-in-Some.ensures ∙ c.in-Some-served.is) in
-    let h : hint_in c.args.core.now.privilege c.args.va Write c.args.core.now.tlb ≡ Some c.in-Some.pa = s.2 in
-    let h2 : hint_in c.args.core.now.privilege (next_page c.args.va) Write c.args.core.now.tlb ≡ Some c.in-Some-served.pa2 =
-    sym (ap (λ (x : ℕ). hint_in c.args.core.now.privilege x Write c.args.core.now.tlb) c.next_page-next.ensures) ∙ s2.2 in
-    let inside : ℕ → Bool = λ m. both_inside c.args.base (length c.args.ram.now) (record { in_page = m; pa = c.in-Some.pa; pa2 = c.in-Some-served.pa2 }) (bytes_in c.args.width) in
-    let after : ℕ → List ℕ = λ m. both_stored c.args.base c.args.ram.now (record { in_page = m; pa = c.in-Some.pa; pa2 = c.in-Some-served.pa2 }) (bytes_in c.args.width) c.args.value in
-    put-two _ _ _ _ _ _ _ k h h2 long s.0 s.1 _ _ _ (c.put_both.ensures.made ∙ ap inside c.in_page-in_page.ensures.value) (c.put_both.ensures.after ∙ ap after c.in_page-in_page.ensures.value)
+returns-in-Some-served c = search (rules, plainly, put-two)
