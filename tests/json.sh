@@ -67,6 +67,16 @@ for total in 0 1 31250 34014 1500034014 9007199254740991 9007199254740992 184467
     same frames $total 48000
     same frames $total 44100
 done
+list() { python3 -c 'import struct, sys; w = [a.split(":") for a in sys.argv[1:]]; sys.stdout.buffer.write(struct.pack("<H", len(w)) + b"".join(struct.pack("<Q", int(a, 16)) for a, _ in w) + b"".join(struct.pack("<H", int(n)) for _, n in w))' "$@" >"$work/list"; }
+for windows in '' '100000:1' '200000:16 100000:1 8002f000:3' '100000:2 40101000:4' '200000:16 204000:16' 'fffffffffffff000:1'; do
+    # shellcheck disable=SC2086
+    list $windows
+    same windows tests/regimes.trace "$work/list"
+    same windows tests/names.trace "$work/list"
+done
+{ cat tests/regimes.trace; echo win; echo bytes 0000; echo win; echo bytes 0200; echo bytes 00002000000000000040200000000000; echo bytes 10001000; echo win; echo bytes 010000101000000000000100; echo win; } >"$work/trace"
+same run "$work/trace"
+same run "$work/trace" --words
 MORE=0 same help
 
 # refused STATUS DOCUMENT COMMAND ..: nothing is on standard output, and on standard error the document alone.
@@ -85,6 +95,9 @@ refused 1 '{"place":"none","reason":"No such file or directory"}' audit none --j
 refused 1 '{"place":"--image","reason":"No such file or directory"}' run tests/page.trace --image none@0 --json
 refused 1 '{"reason":"LEVEL: 0, 1, 2 or 3"}' walk tests/page.trace 0 read 4 --json
 refused 1 '{"reason":"TOTAL: not a decimal number of 64 bits"}' frames 1f --json
+printf '\1\0\0\0\020\0\0\0\0\0\021\0' >"$work/list"
+refused 1 "{\"place\":\"$work/list\",\"byte\":10,\"reason\":\"window 0 has 17 pages, at most 16 are allowed\"}" windows --json tests/page.trace "$work/list"
+refused 1 '{"place":"none","reason":"No such file or directory"}' windows tests/page.trace none --json
 refused 1 '{"reason":"the rate is 48000 or 44100 frames a second"}' frames 1 96000 --json
 refused 1 '{"reason":"PAGES: more than 65536 pages (10000 hexadecimal)"}' census tests/page.trace 0 10001 --json
 refused 2 '{"reason":"no such command: runs (the nearest is run)"}' runs --json

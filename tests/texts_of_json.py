@@ -18,6 +18,9 @@ def answer(a):
     if kind == 'leaf': return 'leaf %x %x %d %d %d %d %d' % (n('pa'), n('permissions'), a['level'], a['attrindx'], a['sh'], a['ns'], a['global'])
     if kind == 'pair': return 'pair %x %x' % (n('first'), n('second'))
     if kind == 'counts': return 'counts %x:%016x' % (n('not_zero'), n('digest'))
+    if kind == 'shared_page': return 'pair %x %x' % (n('first'), n('second'))
+    if kind == 'no_shared_page': return 'none'
+    if kind == 'page_fault': return 'page %x %x %02x' % (n('window'), n('page'), n('status'))
     return kind
 
 
@@ -223,6 +226,29 @@ def ranges(documents):
         assert number(r['last']) - number(r['va']) + 1 == n
     if d['stage1']: yield '%d range%s, %d pages of 4 KiB' % (len(d['ranges']), '' if len(d['ranges']) == 1 else 's', number(d['pages']))
     for m in d['memory']: yield '  Attr%d is %02x: %s' % (m['attrindx'], number(m['value']), m['memory'])
+
+
+def windows(documents):
+    d, = documents
+    count = len(d['windows'])
+    fault = lambda f: '%s (0x%02x)' % (f['fault'], number(f['status']))
+    yield '%d window%s at EL%d, for a privileged write: the regime is %s' % (count, '' if count == 1 else 's', d['el'], d['regime'])
+    for row in d['windows']:
+        at = number(row['va'])
+        for k, run in enumerate(row['runs']):
+            va, last, answer = number(run['va']), number(run['last']), run['answer']
+            assert va == at and last - va + 1 == run['pages'] << 12
+            at = last + 1
+            told = '%016x-%016x' % (number(answer['pa']), number(answer['pa']) + last - va) if 'pa' in answer else fault(answer)
+            yield '  %s  %016x-%016x  %s' % ('  ' if k else '%2d' % row['window'], va, last, told)
+        assert at == number(row['va']) + (row['pages'] << 12)
+    found = d['found']
+    if found['kind'] == 'apart': yield 'no two of %d windows share a page' % count
+    elif found['kind'] == 'fault': yield 'window %d, page %d (%016x): %s' % (found['window'], found['page'], number(found['va']), fault(found['fault']))
+    else:
+        i, k = found['first'], found['second']
+        for page in found['pages']:
+            yield 'windows %d and %d share the physical page %x (page %d of %d, page %d of %d)' % (i, k, number(page['pa']), page['page_of_first'], i, page['page_of_second'], k)
 
 
 def frames(documents):

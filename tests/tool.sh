@@ -78,8 +78,10 @@ a72/src/stop.rt: a trace
 a72/src/stop.rt: no command
 a72/src/stop.rt: the proved core lost a tone of the chord
 a72/src/stop.rt: out of memory
+a72/src/stop.rt: a wrong list
+a72/src/stop.rt: windows that are not apart
 UNSHOWN
-(cd crates && awk -v shown="$work/shown" -f ../tests/texts.awk manual_words/src/*.rt walk_report/src/*.rt census_report/src/*.rt counters_report/src/*.rt reads_report/src/*.rt ranges_report/src/*.rt frames_report/src/*.rt chord/src/*.rt trace_file/src/*.rt \
+(cd crates && awk -v shown="$work/shown" -f ../tests/texts.awk manual_words/src/*.rt walk_report/src/*.rt census_report/src/*.rt counters_report/src/*.rt reads_report/src/*.rt ranges_report/src/*.rt windows_report/src/*.rt frames_report/src/*.rt chord/src/*.rt trace_file/src/*.rt \
     a72/src/*.rt trace_text/src/reason.rt) | grep -vxF -f "$work/unshown" >"$work/told"
 [ ! -s "$work/told" ] && pass || { fail 'texts of the tool that no sample shows' && sed 's/^/    /' "$work/told"; }
 
@@ -580,6 +582,7 @@ same "$work/odd" 'flags, statuses and immediates at their ends'
 "$tool" run "$work/empty" >"$work/out" 2>&1 && [ ! -s "$work/out" ] && pass || fail 'an empty trace'
 
 tests/ranges.sh && pass || fail 'tests/ranges.sh'
+tests/windows.sh && pass || fail 'tests/windows.sh'
 
 tests/json.sh && pass || fail 'tests/json.sh'
 

@@ -7,7 +7,7 @@ use Rattle.history.specs.Invisible.{Tidy}
 use Rattle.history.proofs.Corollaries.{rest-invisible}
 use Rattle.history.specs.Calls.{Machine, Fed, run, lent_of, bare_run, events_fed, events_run, ShownIn, Shown, plain_of, Bridge, Replies, RepliesByAnswers, SameReplies}
 use Rattle.history.specs.Calls.{replies, bare_replies, InvisibleCalls}
-use Rattle.history.proofs.EveryCall.{run-bare, fed-events, run-plain, fresh-run}
+use Rattle.history.proofs.EveryCall.{run-bare, run-plain, fresh-run}
 
 module _ (w : World) (M : Machine w) where
   -- one call more

@@ -17,7 +17,6 @@ use Rattle.tlb.specs.Model.{need}
 use Rattle.tlb.specs.Asks.{Ask, kind_of, address_of}
 use Rattle.tlb.specs.declared.{access.Kind.Kind}
 use Rattle.tlb.specs.Answers.{Answer}
-use Rattle.tlb.proofs.FlatLaws.{flat-failed}
 use Rattle.tlb.specs.Fresh.{leaf_answer}
 use Rattle.history.specs.World.{covers, Plain, regime_now, on_now, untag_now, page_now, uncached}
 use Rattle.history.specs.History.{Event}

@@ -1,10 +1,11 @@
 -- Over every history the cache of History.antt does to the plain model what the model's own functions do.
 use Rattle.std.proofs.Common.{arith, rules, ap₂, ◌∙◌}
 use Rattle.std.specs.Prelude.{◌≡◌, List, [], ◌∷◌, ◌++◌, ℕ, ◌≤◌}
-use Rattle.std.proofs.Math.Path.{refl, ap}
-use Rattle.tlb.specs.Tlb.{fresh}
+use Rattle.std.proofs.Math.Path.{refl, ap, subst}
+use Rattle.std.proofs.Math.Bool.{true, false}
+use Rattle.tlb.specs.Tlb.{fresh, invalidate_of}
 use Rattle.tlb.specs.Maintenance.{invalidated_of, reshaped_of, retagged_of}
-use Rattle.tlb.specs.Model.{Model, empty_model}
+use Rattle.tlb.specs.Model.{Model, empty_model, broadcast}
 use Rattle.tlb.specs.Live.{live, WellFormed, LeafLevel, Follows}
 use Rattle.tlb.proofs.Refines.{fresh-live, fresh-sound, flush-live, flush-sound, invalidate-live, invalidate-sound, retag-live, retag-sound, broadcast-live}
 use Rattle.tlb.proofs.Refines.{broadcast-sound}
@@ -13,7 +14,7 @@ use Rattle.tlb.specs.Asks.{Ask, translates, fetches, Given}
 use Rattle.tlb.specs.declared.{access.Kind.Kind, Tlb.Tlb}
 use Rattle.tlb.specs.declared.access.Kind.TheVariants.{Fetch}
 use Rattle.history.specs.World.{World, Laws, Plain, regime_now, untag_now, access_of}
-use Rattle.history.specs.History.{Effect, Event, steps, receives, after, after_event, plain_run, answer_of, tlb_ask, answers}
+use Rattle.history.specs.History.{Effect, nothing, carries, writes, sets, Event, steps, receives, after, after_event, plain_run, answer_of, tlb_ask, answers}
 use Rattle.history.specs.History.{tlb_asks, tlb_after, tlb_event, tlb_run}
 use Rattle.history.specs.Invisible.{answers_run}
 use Rattle.history.proofs.Lists.{event-low, run-low}
@@ -56,16 +57,38 @@ module _ (w : World) (laws : Laws w) where
 
   -- EFFECTS
 
+  flushed-stands : (R S : w.Regs) (t : Tlb) → WellFormed t → StandsFor (reshaped_of t (w.same-shape R S)) (model_flushed w R S (live t))
+  unfolding reshaped_of model_flushed
+  flushed-stands R S t s = grind (arith, flush-sound, flush-live)
+
+  retagged-stands : (a : ℕ) {t : Tlb} {u : Model} → StandsFor t u → StandsFor (retagged_of t a) (model_retagged w a u)
+  unfolding retagged_of model_retagged
+  retagged-stands a {t} r = grind (arith, retag-sound, retag-live)
+
   effect-stands : (e : Effect w) (c : Plain w) (t : Tlb) → WellFormed t → StandsFor (tlb_after w e c t) (model_after w e c (live t))
-  unfolding invalidated_of retagged_of model_retagged reshaped_of model_flushed
-  effect-stands e c t h1 =
-      search (rules, invalidate-sound, invalidate-live, broadcast-sound, broadcast-live, retag-sound, retag-live, flush-sound, flush-live)
+  unfolding invalidated_of
+  effect-stands nothing c t s = record { well = s; is = refl }
+  effect-stands (carries v false) c t s = record { well = invalidate-sound t s v; is = invalidate-live t s v }
+  effect-stands (carries v true) c t s =
+      record {
+        well = broadcast-sound (invalidate_of t v) v (invalidate-sound t s v);
+        is = broadcast-live (invalidate_of t v) v ∙ ap (broadcast v) (invalidate-live t s v);
+      }
+  effect-stands (writes R) c t s = retagged-stands (w.asid R) (flushed-stands c.regs R t s)
+  effect-stands (sets privilege low) c t s = record { well = s; is = refl }
 
   -- EVENTS
 
   pub event-stands : (x : Event w) (c : Plain w) {t : Tlb} {u : Model} → c.privilege.level ≤ 3 → StandsFor t u
       → StandsFor (tlb_event w x c t) (model_event w x c u)
-  event-stands x c {t} low r = grind (arith, asks-stand, effect-stands, invalidate-sound, invalidate-live)
+  event-stands x c {t} low r = subst (λ (u : Model). StandsFor (tlb_event w x c t) (model_event w x c u)) r.is (go x)
+    where
+      go : (y : Event w) → StandsFor (tlb_event w y c t) (model_event w y c (live t))
+      go (steps m s) =
+          let l = asks-stand c m low s.asks t r.well in
+          subst (λ (u : Model). StandsFor (tlb_after w s.effect c (tlb_asks w c m s.asks t)) (model_after w s.effect c u)) l.is
+          (effect-stands s.effect c (tlb_asks w c m s.asks t) l.well)
+      go (receives v) = record { well = invalidate-sound t r.well v; is = invalidate-live t r.well v }
 
   -- HISTORIES
 

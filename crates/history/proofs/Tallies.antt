@@ -11,9 +11,9 @@ use Rattle.tlb.proofs.Counting.{translate-counts, fetch-counts, counted-others}
 use Rattle.tlb.specs.declared.Inval.{Inval}
 use Rattle.tlb.specs.Answers.{Answer}
 use Rattle.history.specs.World.{World, Plain}
-use Rattle.history.specs.History.{Effect, Event, steps, receives, after}
+use Rattle.history.specs.History.{Event, steps, receives, after}
 use Rattle.history.proofs.Lists.{event-low}
-use Rattle.history.specs.ModelRun.{model_ask, model_asks, model_flushed, model_retagged, model_after, model_event, model_run}
+use Rattle.history.specs.ModelRun.{model_ask, model_asks, model_flushed, model_retagged, model_event, model_run}
 use Rattle.history.specs.Tallies.{Made, by_line, by_walk, how_many, at, rust_after, made_in, made_run}
 
 -- THE COUNTERS AFTER TRANSLATIONS, one after another
@@ -60,17 +60,7 @@ module _ (w : World) where
   unfolding broadcast model_retagged model_flushed invalidate retag
   run-alike [] c u = same_alike
   run-alike (steps m s ∷ xs) c u =
-      grind (
-        arith,
-        (run-alike xs (after w s.effect c) (model_event w (steps m s) c u)),
-        same_alike,
-        then-alike,
-        asks-counts,
-        all_alike,
-        counted-append,
-        inval-alike,
-        u.counts,
-      )
+      grind (arith, (run-alike xs (after w s.effect c) (model_event w (steps m s) c u)), same_alike, then-alike, asks-counts, all_alike, counted-append, inval-alike, u.counts)
   run-alike (receives v ∷ xs) c u =
       then-alike (run-alike xs c (invalidate v u)) (all_alike (made_run w c xs (invalidate v u)) (inval-alike v u))
 

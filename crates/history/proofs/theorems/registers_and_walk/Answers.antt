@@ -2,4 +2,4 @@ use Rattle.history.proofs.Instance.{real-laws}
 use Rattle.history.proofs.theorems.registers_and_walk.Goals as goal
 
 pub returns : goal.returns
-returns c = assumption real-laws
+returns c = record { laws = real-laws }
