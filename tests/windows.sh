@@ -58,6 +58,17 @@ list 200000:1 200000:1 100000:2 400000:1
 says 1 'window 2, page 1 (0000000000101000): permission fault, level 3 (0x0f)' 'page 2 1 0f' $regimes
 list 200000:1 fffffffffffff000:1
 says 1 'window 1, page 0 (fffffffffffff000): translation fault, level 2 (0x06)' 'page 1 0 06' $regimes
+# heads LEVEL REGIME: the first line names the level and its regime.
+heads() {
+    echo "level $1" >"$work/level"
+    "$tool" windows "$work/level" "$work/list" >"$work/out" 2>&1
+    [ "$(head -n 1 "$work/out")" = "1 window at EL$1, for a privileged write: the regime is $2" ] && pass || fail "the first line at EL$1"
+}
+list 1000:1
+heads 0 'EL1&0'
+heads 1 'EL1&0'
+heads 2 EL2
+heads 3 EL3
 # Stage 1 off: a page is its own; a level above 3; RAM that passes 2^64.
 echo 'level 1' >"$work/flat"
 list 1000:2 3000:1 2000:1
@@ -68,7 +79,7 @@ printf 'level 1\np-level 4\n' >"$work/high"
 list 100000:17
 says 1 "a72: the core's level is above 3" 'no 1' "$work/high"
 echo 'window fffffffffffff000 2000' >"$work/past"
-says 1 'a72: the window passes 2^64' 'no 2' "$work/past"
+says 1 'a72: the window of RAM passes 2^64' 'no 2' "$work/past"
 
 # wrong TEXT: the list is refused at a byte, and nothing is shown.
 wrong() {
@@ -125,8 +136,8 @@ bytes '1:7: more than 400 bytes (1024) in one line' "bytes ${thousand}00"
 for i in $(seq 1 64); do echo "bytes $thousand"; done >"$work/most"
 (cat "$work/most"; echo win; cat "$work/most"; echo fresh; echo win; echo win; echo 'bytes 0000'; echo win) >"$work/trace"
 [ "$("$tool" run "$work/trace" --short | sed 's/.* => //' | tr '\n' ' ')" = 'no 9 no 9 no 9 none ' ] && pass || fail 'lists of 65,536 bytes'
-(cat "$work/most"; echo 'bytes 00') >"$work/trace"
-refused 1 "a72: $work/trace:65:7: a list of more than 10000 bytes (64 KiB)" run "$work/trace"
+(echo 'level 1'; cat "$work/most"; echo 'bytes 00') >"$work/trace"
+refused 1 "a72: $work/trace:66:7: a list of more than 10000 bytes (64 KiB)" run "$work/trace"
 
 echo "$good as expected, $bad otherwise"
 [ "$bad" -eq 0 ]

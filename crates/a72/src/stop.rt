@@ -61,10 +61,13 @@ pub enum Stop {
     List(io::Error),
     #[error("a list of more than 10000 bytes (64 KiB)")]
     LongList,
+    /// of a command on windows of a list
+    #[error("the window of RAM passes 2^64")]
+    PastRam,
     /// LIST is wrong
     #[error("a wrong list")]
     WrongList(Refusal),
-    /// two windows share a page, or one faults, as standard output says
+    /// two windows share a page, or a page faults, as standard output says
     #[error("windows that are not apart")]
     NotApart,
     /// the core gave an answer that a walk now would not, as standard output says
@@ -86,7 +89,7 @@ impl From<list::Refused> for Stop {
     fn from(refused: list::Refused) -> Self {
         match refused {
             list::Refused::Check(Check::Level) => Stop::Census(Refused::Level),
-            list::Refused::Check(_) => Stop::Census(Refused::Window),
+            list::Refused::Check(_) => Stop::PastRam,
             list::Refused::List(refusal) => Stop::WrongList(refusal),
             list::Refused::Memory(error) => Stop::Memory(error),
         }

@@ -34,8 +34,8 @@ ranges   carries out a trace, then shows what the tables map, from FIRST to LAST
          the core's level, or as named: a row for each range of addresses that are mapped on and alike.
 windows  carries out a trace, then shows where the windows of LIST lie, each page for a privileged write at the core's
          level: runs of physical pages, and those that the first two windows with one in common share, or the first
-         page that faults; the status is 1 where there is one. LIST is a file of numbers, the lowest byte first: how many
-         windows (2 bytes), their first addresses (8 bytes each), and then their pages of 4 KiB (2 bytes each).
+         page that faults; the status is 1 where there is one. LIST is a file of numbers, the lowest byte first: how
+         many windows (2 bytes), their first addresses (8 bytes each), and then their pages of 4 KiB (2 bytes each).
 frames   shows a TOTAL of cycles (decimal; 1500000000 are a second) as sample frames, at 48000 and 44100 frames a
          second, or at one of them: whole frames, and exactly what is left of the next, in cycles or 147ths of one.
 chord    sixteen voices, a page each, and every order of a small chord: no tone is lost; against a stale
@@ -43,8 +43,8 @@ chord    sixteen voices, a page each, and every order of a small chord: no tone 
 
 TRACE is a file of lines, or - for standard input, which is carried out as it comes: tr, dpa, fpa, ld, st, if, sys,
 reg, level, mark, x, abort, census, win; fresh, window, zero, poke, load, bytes; leaves l-..; pokes p-..; parts w-..
-Numbers are hexadecimal without 0x; # starts a comment. Names stand for numbers as an assembler has them: reg TCR_EL1 19,
-tlbi vae1is x1, at s1e1r x0, dc zva x2. A file with a bad line gets a message `a72: FILE:LINE:COLUMN: reason`
+Numbers are hexadecimal without 0x; # starts a comment. Names stand for numbers as an assembler has them: reg TCR_EL1
+19, tlbi vae1is x1, at s1e1r x0, dc zva x2. A file with a bad line gets a message `a72: FILE:LINE:COLUMN: reason`
 on standard error, and nothing else happens. --image FILE@ADDRESS: the bytes of FILE, a raw dump, are the
 window before the first line, from the physical ADDRESS on. --json: what a command says as one JSON document, of run
 as one for each operation; what keeps a call from being carried out too, on standard error.

@@ -3,12 +3,13 @@ use crate::carry::{Carrier, Numbered};
 use crate::load;
 use crate::load::Image;
 use crate::report::Trouble;
+use cpu::call::Call;
 use std::io::{BufRead, BufReader, Input, Read, Seek};
 use std::rt::Files;
 use std::{fs, io};
 use trace_core::machine::Machine;
 use trace_text::expected::Expected;
-use trace_text::line::{Digits, Line};
+use trace_text::line::{Digits, LONGEST_LIST, Line, Operation};
 use trace_text::reason::{Reason, Refusal};
 use trace_text::{expected, parse};
 
@@ -64,15 +65,36 @@ fn parsed(number: u64, bytes: &[u8]) -> Result<Option<Numbered>, Trouble> {
     }
 }
 
+// A list of windows has more bytes than there may be.
+fn long_list(number: u64, digits: Digits) -> Trouble {
+    let column = digits.start.wrapping_add(1);
+    let reason = Reason::LongList;
+    Trouble::Line(number, Refusal { column, reason })
+}
+
+// How many bytes a line's digits are.
+fn bytes_of(digits: Digits) -> usize {
+    digits.end.saturating_sub(digits.start) / 2
+}
+
 // All lines of a reader that stands at a trace's start are read, and none is carried out.
 fn check<R: Files, B: BufRead>(rt: &R, reader: &mut B, bytes: &mut Vec<u8>) -> Result<(), Trouble> {
+    let mut listed = 0;
     for before in 0..LINES {
+        let number = before + 1;
         if !next_line(reader, bytes).map_err(Trouble::File)? {
             return Ok(());
         }
-        let line = parsed(before + 1, bytes.as_slice())?;
-        if let Some(Line::Load(from)) = line.map(|line| line.line) {
-            load::check(rt, before + 1, bytes.as_slice(), from)?;
+        match parsed(number, bytes.as_slice())?.map(|line| line.line) {
+            Some(Line::Load(from)) => load::check(rt, number, bytes.as_slice(), from)?,
+            Some(Line::Operation(Operation::Call(Call::Windows))) => listed = 0,
+            Some(Line::Bytes(digits)) => {
+                listed = bytes_of(digits).saturating_add(listed);
+                if LONGEST_LIST < listed {
+                    return Err(long_list(number, digits));
+                }
+            }
+            _ => {}
         }
     }
     Err(Trouble::ManyLines)
@@ -80,13 +102,11 @@ fn check<R: Files, B: BufRead>(rt: &R, reader: &mut B, bytes: &mut Vec<u8>) -> R
 
 // A line's bytes of a list of windows go behind those that are there.
 fn list(number: u64, line: &[u8], digits: Digits, machine: &mut Machine) -> Result<(), Trouble> {
-    let Digits { start, end } = digits;
-    if machine.add_digits(line.get(start..end).unwrap_or(b""))? {
-        return Ok(());
+    if machine.add_digits(line.get(digits.start..digits.end).unwrap_or(b""))? {
+        Ok(())
+    } else {
+        Err(long_list(number, digits))
     }
-    let column = start.wrapping_add(1);
-    let reason = Reason::LongList;
-    Err(Trouble::Line(number, Refusal { column, reason }))
 }
 
 // All lines of a reader that stands at a trace's start are carried out, until the carrier has seen enough.

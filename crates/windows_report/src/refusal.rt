@@ -8,7 +8,7 @@ use windows::list::Malformed;
 use word::ram;
 use word::ram::Width;
 
-/// Why a list is wrong: its first byte that is at fault, and the reason.
+/// Why a list is wrong, and the byte that is at fault: of a wrong length where the file ends.
 #[derive(Clone, Copy, Debug)]
 pub struct Refusal {
     pub byte: u64,
