@@ -12,7 +12,7 @@ bench=target-rattle/release/bench
 ./ir.sh $bench "$work/counts" >/dev/null
 $bench time 900 --counts "$work/counts" >"$work/table"
 SIDE=plain ./ir.sh $bench "$work/plain-counts" >/dev/null
-# For the plain core both sides are built so that no jump lies over a boundary of 32 bytes, and each loop begins at one of 64: no place decides.
+# For the plain core both sides are built so that no jump lies over a boundary of 32 bytes, and each innermost loop begins at one of 64: place decides little.
 RUSTFLAGS="-C llvm-args=-x86-branches-within-32B-boundaries -C llvm-args=-x86-experimental-pref-innermost-loop-alignment=6" \
     cargo build --offline --release -j1 --target-dir target/placed --bin bench
 target/placed/release/bench time 900 --plain --counts "$work/plain-counts" >"$work/plain-table"
@@ -36,7 +36,7 @@ instructions a call. A ratio is the library's number by the Rust's.
 ## What is called
 
 On the Rust's side pimu's own function, behind one call that is not inlined, with RAM as a slice at its quickest (one test of the window, then
-a load or store of the size). The checks 1 to 7 are not made there: pimu has none. A register write is `write_reg` with the scope's
+a load or store of the size). The checks 1 to 7 are not made there: pimu has none; of windows the list is read, and so 9 is. A register write is `write_reg` with the scope's
 rule. On the library's side the exported function on a core behind its handle, with its checks.
 
 So the library does more: it checks level, window, kind, size and range, and takes and gives numbers. For translations, loads, stores, censuses and lists of windows a third column has

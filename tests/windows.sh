@@ -1,5 +1,5 @@
 #!/bin/sh
-# `a72 windows`: which windows share a page, by a tester of its own over `a72 walk`; each way in which a list is wrong; and the same lists in a trace, by `bytes` and `win`.
+# `a72 windows`: its last line and its status on lists that are written by hand; each way in which a list is wrong; the level and the regime; and the same lists in a trace, by `bytes` and `win`.
 # Wants target/bin/a72 (tools/build a72) and python3. Its last line is 'N as expected, M otherwise'.
 set -u
 cd "$(dirname "$0")/.." || exit 1

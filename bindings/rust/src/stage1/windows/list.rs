@@ -21,8 +21,8 @@ pub struct Window {
 
 const NO_WINDOW: Window = Window { start: 0, pages: 0 };
 
-/// Why a list is not right: the first reason that holds, in the order in which a list is read. The last three are of one
-/// window.
+/// Why a list is not right: the first reason that holds, in this order. The last three are of one window, and
+/// are looked for window by window.
 #[derive(Clone, Copy, PartialEq, Eq, Debug)]
 pub enum Malformed {
     /// It has fewer than two bytes, or not two and ten for each window.
