@@ -1,14 +1,14 @@
 -- Laws of an answer with stage 1 off.
-use Rattle.std.specs.Prelude.{◌≡◌, nat_lt, refl, Bool, true, false, ℕ, ◌^◌, ◌<◌, ◌≤◌, Some, None, Ok, Err, Option}
-use Rattle.std.proofs.Common.{arith, sym, ap, ◌∙◌}
-use borrow.Author.Tests.{lt-ltb, le-ltb, ltb-true, ltb-false}
+use Rattle.std.specs.Prelude.{◌≡◌, ℕ, ◌^◌, ◌<◌, ◌≤◌, Some, Ok, Err, Option}
+use Rattle.std.proofs.Common.{arith}
+use borrow.Author.Tests.{lt-ltb, le-ltb}
 use Rattle.walk.specs.Flat.{flat_by}
 use Rattle.walk.specs.Tag.{untagged}
 use Rattle.walk.proofs.FlatLaws.{flat-below, flat-above, flat-is, flat-small}
 use Rattle.sysreg.specs.declared.regs.Regime.{Regime}
 use Rattle.fault.specs.First.{first}
 use Rattle.fault.specs.declared.Fault.{Fault}
-use Rattle.tlb.specs.Access.{flat_end, flat_answer}
+use Rattle.tlb.specs.Access.{flat_answer}
 
 pub flat-fits : (u : ℕ) → u < 2 ^ 44 → flat_answer u ≡ Ok u
 flat-fits u h = rw (lt-ltb u (2 ^ 44) h)
@@ -26,18 +26,4 @@ flat-failed u f = grind arith
 
 -- an address that is small as it stands has no tag
 pub flat-raw : (tcr : ℕ) (r : Regime) (va pa : ℕ) (x : Option ℕ) → va < 2 ^ 64 → x ≡ flat_by va → x ≡ Some pa → flat_answer (untagged tcr r va) ≡ Ok pa
-flat-raw tcr r va pa x h e f = go (nat_lt va (2 ^ 44)) refl
-  where
-    is : flat_by va ≡ Some pa
-    is = sym e ∙ f
-
-    go : (b : Bool) → nat_lt va (2 ^ 44) ≡ b → flat_answer (untagged tcr r va) ≡ Ok pa
-    go true l =
-        let low : va < 2 ^ 44 = ltb-true va (2 ^ 44) l in
-        let own : ◌≡◌ {A = Option ℕ} (Some va) (Some pa) = sym (flat-below va low) ∙ is in
-        let same : va ≡ pa = cc in
-        ap flat_end (sym (flat-is tcr r va h) ∙ flat-small tcr r va low) ∙ ap Ok same
-    go false l =
-        let high : 2 ^ 44 ≤ va = ltb-false va (2 ^ 44) l in
-        let none : ◌≡◌ {A = Option ℕ} None (Some pa) = sym (flat-above va high) ∙ is in
-        cc
+flat-raw tcr r va pa x h e f = let n = flat-is tcr r va h in grind (arith, flat-small tcr r va, flat-below, flat-above)

@@ -9,7 +9,7 @@ use Rattle.tlb.specs.Access.{flat_answer}
 use Rattle.tlb.specs.Answers.{Outcome}
 use Rattle.tlb.proofs.Cells.{judged-is}
 use Rattle.tlb.specs.Count.{with_tally, hit_counted, walk_counted}
-use Rattle.tlb.specs.Entry.{blank, slot_of, entry_for}
+use Rattle.tlb.specs.Entry.{slot_of, entry_for}
 use Rattle.tlb.proofs.Lists.{each-getD}
 use Rattle.tlb.specs.Live.{Follows, line_in, live, Made, WellFormed, LeafLevel}
 use Rattle.tlb.specs.Model.{empty, holds, Line, one_hit, one_walk, counting, keep, Access, line_of_leaf, judge, walked, looked, flat, unhinted}
@@ -46,7 +46,7 @@ module _ (a : Access) (t : Tlb) (s : WellFormed t) (fits : LeafLevel a.walk) (lo
   walk-well = search rules
 
   entry-made : Made t.generation entry
-  entry-made = each-getD {P = Made t.generation} blank (blank-made _) s.entries (slot_of (tag_in a))
+  entry-made = grind (arith, each-getD, blank-made)
 
   -- a leaf's entry is the leaf's line
   abbrev made : Leaf → Entry
@@ -79,7 +79,7 @@ module _ (a : Access) (t : Tlb) (s : WellFormed t) (fits : LeafLevel a.walk) (lo
 
   miss-by : (on : Bool) → Follows (missed on) (unhinted on a (live t))
   unfolding get_of unhinted
-  miss-by on = grind (arith, line-is, look-follows, flat-is, well)
+  miss-by on = grind (arith, line-is, look-follows)
 
   pub miss-follows : Follows (miss_in a t) (unhinted a.on a (live t))
   unfolding miss_in

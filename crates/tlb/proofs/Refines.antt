@@ -1,6 +1,6 @@
 -- Each operation on the cache does to the plain model what the requirement says, and keeps the cache well-formed.
 use Rattle.std.proofs.Common.{rules}
-use Rattle.std.specs.Prelude.{if◌then◌else◌, ◌≡◌, ℕ, ◌+◌, ◌*◌, ◌/◌, ◌%◌, ◌^◌, ◌<◌, ◌≤◌, Bool, true, false, List, map, length, ◌==◌, None, slice_index_or, slice_set}
+use Rattle.std.specs.Prelude.{if◌then◌else◌, ◌≡◌, ℕ, ◌+◌, ◌*◌, ◌/◌, ◌%◌, ◌^◌, ◌<◌, ◌≤◌, List, map, length, ◌==◌, None, slice_index_or, slice_set}
 use Rattle.std.proofs.Math.Path.{refl, ap, subst}
 use Rattle.std.proofs.Common.{sym, ◌∙◌, arith, length-set}
 use Rattle.std.proofs.lemmas.List.{length-map}
@@ -174,9 +174,6 @@ module _ (t : Tlb) (s : WellFormed t) where
   retag-sound asid = search (rules, length-replicate, each-replicate)
 
 -- BROADCAST
-
-pub falsely : {A : Type 0} → false ≡ true → A
-falsely e = absurd (let z : ◌≡◌ {A = ℕ} 0 1 = ap (λ (b : Bool). (if b then 1 else 0)) e in omega arith)
 
 pub broadcast-live : (t : Tlb) (what : Inval) → live (broadcast_of t what) ≡ broadcast what (live t)
 unfolding broadcast_of broadcast

@@ -3,18 +3,16 @@ use Rattle.std.proofs.Common.{rules}
 use Rattle.std.specs.Prelude.{if◌then◌else◌, ◌≡◌, ℕ, ◌/◌, ◌≤◌, Bool, true, false, ◌==◌, Some, None}
 use Rattle.std.proofs.Common.{arith, length-set}
 use Rattle.tlb.specs.Access.{may_hint}
-use Rattle.tlb.specs.Answers.{Outcome}
-use Rattle.tlb.proofs.Cells.{if-ap, on-aligned, may-is, known_is, hint-made, fetch-known-is, fetch-made}
+use Rattle.tlb.proofs.Cells.{on-aligned, may-is, known_is, hint-made, fetch-known-is, fetch-made}
 use Rattle.tlb.specs.Hint.{place_of, data_slot, hint_key, on_page}
 use Rattle.tlb.proofs.Lists.{each-getD, each_set, get_d_set}
 use Rattle.tlb.specs.Live.{Follows, hints_of, fetch_hint_of, live, WellFormed, LeafLevel}
-use Rattle.tlb.specs.Model.{empty, holds, Model, folded, hint_place, keep_hint, Access, unhinted, noted, tried, hinted}
+use Rattle.tlb.specs.Model.{empty, holds, folded, hint_place, keep_hint, Access, noted, tried, hinted}
 use Rattle.tlb.specs.Model.{translate, fetch}
 use Rattle.tlb.specs.Tlb.{hint_at}
-use Rattle.tlb.specs.Translate.{miss_in, noted_in, tried_in, translation_in, fetch_in}
+use Rattle.tlb.specs.Translate.{tried_in, translation_in, fetch_in}
 use Rattle.tlb.specs.declared.{access.Kind.Kind, hint.Hint.Hint, Tlb.Tlb}
 use Rattle.tlb.proofs.Misses.{miss-follows}
-use Rattle.tlb.proofs.Refines.{well, falsely}
 
 -- HINTS
 
@@ -22,10 +20,6 @@ use Rattle.tlb.proofs.Refines.{well, falsely}
 pub place_is : (kind : Kind) (va : ℕ) → hint_place kind va ≡ data_slot va kind
 unfolding folded place_of
 place_is kind va = grind arith
-
-module _ (a : Access) (low : a.privilege.level ≤ 3) where
-  unnoted : (o : Outcome Tlb) (p : Outcome Model) → may_hint a.privilege a.kind ≡ false → Follows o p → Follows (noted_in a o) p
-  unnoted o p may f = grind arith
 
 -- TRANSLATIONS
 
@@ -36,13 +30,13 @@ module _ (a : Access) (t : Tlb) (s : WellFormed t) (fits : LeafLevel a.walk) (lo
   by-hint : may_hint a.privilege a.kind ≡ true → (b : Bool)
       → Follows (tried_in (if b then Some (on_page hint.pa a.va) else None) a t) (tried (if b then holds (hint.pa / 4096) else empty) (keep_hint (data_slot a.va a.kind)) a (live t))
   unfolding tried noted hints_of place_of
-  by-hint may b = search (rules, on-aligned, each-getD, well, miss-follows, get_d_set, if-ap, hint-made, falsely, length-set, each_set)
+  by-hint may b = search (rules, on-aligned, each-getD, miss-follows, get_d_set, hint-made, length-set, each_set)
 
   by-mark : (m : Bool) → may_hint a.privilege a.kind ≡ m → Follows (translation_in a t) (hinted m a (live t))
   unfolding hinted hints_of
   by-mark true q =
       rw (q, place_is a.kind a.va, known_is hint a.va a.privilege.level low) (by-hint q (hint.key == hint_key a.va a.privilege.level))
-  by-mark false q = rw q (unnoted a low (miss_in a t) (unhinted a.on a (live t)) q (miss-follows a t s fits low))
+  by-mark false q = grind (arith, miss-follows)
 
   -- a translation follows the plain model
   pub translation-follows : Follows (translation_in a t) (translate a (live t))
@@ -53,4 +47,4 @@ module _ (a : Access) (t : Tlb) (s : WellFormed t) (fits : LeafLevel a.walk) (lo
 -- the translation that a fetch begins with follows the plain model
 pub fetch-follows : (a : Access) (t : Tlb) → WellFormed t → LeafLevel a.walk → a.privilege.level ≤ 3 → Follows (fetch_in a t) (fetch a (live t))
 unfolding fetch fetch_hint_of tried noted
-fetch-follows a t s fits low = search (rules, fetch-known-is, miss-follows, on-aligned, well, fetch-made)
+fetch-follows a t s fits low = search (rules, fetch-known-is, miss-follows, on-aligned, fetch-made)

@@ -10,10 +10,11 @@ use sysreg::regs::Regime;
 use walk::fresh::Fresh;
 use walk::regime::Bank;
 
-/// The answer to an access at `va` with nothing cached, in the regime whose registers are `s`, over the RAM that starts
-/// at `base`: the physical address, or the fault of the walk or of the permission check. It is judged by EL0's rights or
-/// by the regime's own, whatever the level.
-#[tactic(auto, using(crate::proofs::Judging::judging), unfolding(crate::specs::Fresh::fresh_answer))]
+/// The answer to an access at `va` with nothing cached, in the regime whose registers are `s`, over the RAM that
+/// starts at `base`: the physical address, or the fault of the walk or of the permission check. It is judged by EL0's
+/// rights or by the regime's own, whatever the level.
+#[inline(always)]
+#[tactic(auto, unfolding(crate::specs::Fresh::fresh_answer))]
 pub fn fresh_answer(
     s: Bank,
     regime: Regime,

@@ -1,20 +1,18 @@
 -- How many descriptors a walk reads, by the levels at which it begins and ends.
-use Rattle.std.specs.Prelude.{if◌then◌else◌, ◌≡◌, Bool, not, ◌||◌, length, [], ◌∷◌, Option, Ok, Err}
-use Rattle.std.proofs.Math.Path.{refl, subst}
+use Rattle.std.specs.Prelude.{◌≡◌, length, Option, Ok}
 use Rattle.std.proofs.Math.Bool.{true, false}
 use Prim.Native.Nat.{ℕ, zero, suc, ◌+◌, ◌-◌, ◌≤◌}
 use native.Mathlib.Omega.{arith}
 use Rattle.sysreg.specs.Regs.{single_priv}
 use Rattle.walk.specs.Regime.{wxn_of}
-use Rattle.walk.specs.Table.{Translation, Fault, Result, mapped, faults, translation, address_size, external_abort, in_range, beyond}
+use Rattle.walk.specs.Table.{Translation, Result, mapped, faults, external_abort, in_range, beyond}
 use Rattle.walk.specs.Table.{Lookup, Next, deeper, ends, startlevel, first_lookup, range_of, leaf_translation, leaf_result, level_next, table_next}
-use Rattle.walk.specs.Table.{descaddr, lookup_next, walk_from, walk_range, table_walk}
+use Rattle.walk.specs.Table.{lookup_next, walk_from, walk_range, table_walk}
 use Rattle.walk.specs.Walk.{walked_of, walk_of}
-use Rattle.walk.specs.Fetches.{after_next, fetches_from, fetches_range, fetches_of}
+use Rattle.walk.specs.Fetches.{fetches_from, fetches_range, fetches_of}
 use Rattle.walk.specs.Order.{params_at, Reached, entry, onward}
 use Rattle.walk.specs.Counts.{reads, reads_to, SomeRead, EndsAt, OutsideCounts, LeafCounts}
-use Rattle.walk.specs.declared.{regime.Bank.Bank, range.Range.Range, level.Params.Params, level.Leaf.Leaf}
-use Rattle.walk.specs.Answers.{Walked}
+use Rattle.walk.specs.declared.{regime.Bank.Bank, level.Params.Params, level.Leaf.Leaf}
 use Rattle.sysreg.specs.declared.regs.Regime.{Regime}
 use Rattle.walk.proofs.Order.{stage, one_down}
 use Rattle.walk.proofs.SizeLaws.{start-level}
@@ -45,7 +43,7 @@ module _ (s : Bank) (r : Regime) (va : ℕ) (memory : ℕ → Option ℕ) where
 
   pub some-read : SomeRead s r va memory
   unfolding fetches_from fetches_of fetches_range
-  some-read e d b = grind (arith, start-level, stage, one_down)
+  some-read e d b = grind arith
 
   pub ends-at : EndsAt s r va memory
   unfolding fetches_from
@@ -75,9 +73,6 @@ module _ (p : Params) (va : ℕ) (l : Lookup) where
   unfolding lookup_next level_next leaf_result leaf_translation table_next
   lookup-level memory = grind arith
 
-fault-leaf : (f : Fault) (t : Translation) → faults f ≡ mapped t → ⊥
-fault-leaf f t e = let z : ◌≡◌ {A = ℕ} 0 1 = cc in omega arith
-
 module _ (s : Bank) (r : Regime) (va : ℕ) (memory : ℕ → Option ℕ) (t : Translation) where
   abbrev p : Params
   p = params_at s r va
@@ -89,46 +84,18 @@ module _ (s : Bank) (r : Regime) (va : ℕ) (memory : ℕ → Option ℕ) (t : T
   found-from : (n : ℕ) (l : Lookup) → l.level + n ≡ 4 → walk_from n memory p va l ≡ mapped t
       → Found (length (fetches_from n memory p va l)) l.level
   unfolding walk_from fetches_from
-  found-from zero l h e = absurd (fault-leaf _ t e)
-  found-from (suc n) l h e = go (lookup_next memory p va l) refl (λ k q z. found-from n k q z)
-    where
-      ended : (x : Result) → x ≡ mapped t → OfLevel l.level x → t.level ≡ l.level
-      ended x q o = rw q at o
-
-      go : (y : Next) → lookup_next memory p va l ≡ y
-          → ((k : Lookup) → k.level + n ≡ 4 → walk_from n memory p va k ≡ mapped t → Found (length (fetches_from n memory p va k)) k.level)
-          → Found (length (descaddr p va l ∷ after_next (lookup_next memory p va l) (fetches_from n memory p va))) l.level
-      go (deeper k) q ih =
-          let d = one_down s r va memory l k (omega (arith, h)) q in
-          let f = ih k (omega (arith, h, d.0)) (rw q at e) in
-          rw q (record { below = omega (arith, f.below, d.0); count = omega (arith, f.below, f.count, d.0) })
-      go (ends x) q ih =
-          let o : OfLevel l.level x = subst (EndsOn l.level) q (lookup-level p va l memory) in
-          let same = ended x (rw q at e) o in
-          rw q (record { below = omega (arith, same); count = omega (arith, same) })
+  found-from zero l h e = cc
+  found-from (suc n) l h e = grind (arith, one_down, lookup-level, found-from n)
 
   found-range : walk_range p (range_of s r va) va memory ≡ mapped t
       → Found (length (fetches_range p (range_of s r va) va memory)) (startlevel (range_of s r va))
   unfolding walk_range fetches_range
-  found-range = go (not (in_range (range_of s r va) va) || (range_of s r va).disabled) (beyond p.outputsize (range_of s r va).baseregister)
-    where
-      g : Range
-      g = range_of s r va
-
-      go : (a b : Bool)
-          → (if a then faults (translation 0) else if b then faults (address_size 0) else walk_from (4 - startlevel g) memory p va (first_lookup g)) ≡ mapped t
-          → Found (length (if a then [] else if b then [] else fetches_from (4 - startlevel g) memory p va (first_lookup g))) (startlevel g)
-      go true b e = absurd (fault-leaf _ t e)
-      go false true e = absurd (fault-leaf _ t e)
-      go false false e = found-from (4 - startlevel g) (first_lookup g) (omega (arith, start-level g)) e
-
-no-leaf : (n : ℕ) (leaf : Leaf) → ◌≡◌ {A = Walked} (Err n) (Ok leaf) → ⊥
-no-leaf n leaf e = let z : ◌≡◌ {A = ℕ} 0 1 = cc in omega arith
+  found-range = grind (arith, start-level, found-from (4 - startlevel (range_of s r va)) (first_lookup (range_of s r va)))
 
 leaf-of-result : (s : Bank) (r : Regime) (va : ℕ) (memory : ℕ → Option ℕ) (leaf : Leaf) (x : Result) → table_walk s r va memory ≡ x
     → walked_of (single_priv r) (wxn_of s) x ≡ Ok leaf → reads s r va memory ≡ reads_to s r va memory leaf.level
 unfolding table_walk fetches_of
-leaf-of-result s r va memory leaf x e q = grind (arith, found-range, no-leaf)
+leaf-of-result s r va memory leaf x e q = grind (arith, found-range)
 
 pub leaf-counts : (s : Bank) (r : Regime) (va : ℕ) (memory : ℕ → Option ℕ) → LeafCounts s r va memory
 unfolding walk_of

@@ -1,19 +1,18 @@
 -- A walk sees of memory only the descriptors that it fetches, and these are few.
-use Rattle.std.proofs.Common.{arith}
+use Rattle.std.proofs.Common.{arith, rules}
 use Rattle.std.specs.Prelude.{◌≡◌, length, get_or, Option}
 use Rattle.std.proofs.Math.Path.{refl}
-use Rattle.std.proofs.Common.{ap, le_trans}
 use mathlib.Core.List.{List, [], ◌∷◌, Memᴰ}
-use Prim.Native.Nat.{ℕ, zero, suc, ◌+◌, ◌-◌, ◌≤◌, ◌<◌, zero-le, suc-le-suc}
+use Prim.Native.Nat.{ℕ, zero, suc, ◌+◌, ◌-◌, ◌≤◌, ◌<◌}
 use Rattle.word.specs.Ram.{word_at}
 use Rattle.word.proofs.RamLaws.{word-agree}
-use Rattle.walk.specs.Table.{levels_of, Lookup, Next, deeper, ends}
-use Rattle.walk.specs.Table.{range_of, descaddr, lookup_next, on_next, walk_from, walk_range, table_walk}
+use Rattle.walk.specs.Table.{levels_of, Lookup}
+use Rattle.walk.specs.Table.{range_of, descaddr, lookup_next, walk_from, walk_range, table_walk}
 use Rattle.walk.specs.Walk.{walk_of}
 use Rattle.walk.proofs.SizeLaws.{level-count}
 use Rattle.walk.specs.declared.{regime.Bank.Bank, range.Range.Range, level.Params.Params}
 use Rattle.sysreg.specs.declared.regs.Regime.{Regime}
-use Rattle.walk.specs.Fetches.{after_next, fetches_from, fetches_range, fetches_of, Agree, none, one}
+use Rattle.walk.specs.Fetches.{fetches_from, fetches_range, fetches_of, Agree, none, one}
 
 -- that is, at each of its members
 pub agree-all : (m m' : ℕ → Option ℕ) (l : List ℕ) → ((a : ℕ) → Memᴰ a l → m a ≡ m' a) → Agree m m' l
@@ -36,21 +35,7 @@ module _ (m m' : ℕ → Option ℕ) (p : Params) (va : ℕ) where
       → (walk_from n m p va l ≡ walk_from n m' p va l) × (fetches_from n m p va l ≡ fetches_from n m' p va l)
   unfolding walk_from fetches_from
   from-agrees zero l h = (refl, refl)
-  from-agrees (suc n) l h = go (lookup_next m p va l) refl (from-agrees n)
-    where
-      same : lookup_next m p va l ≡ lookup_next m' p va l
-      same = same_next m m' p va l (agree-head m m' _ _ h)
-
-      go : (x : Next) → lookup_next m p va l ≡ x
-          → ((k : Lookup) → Agree m m' (fetches_from n m p va k)
-          → (walk_from n m p va k ≡ walk_from n m' p va k) × (fetches_from n m p va k ≡ fetches_from n m' p va k))
-          → (on_next (lookup_next m p va l) (walk_from n m p va) ≡ on_next (lookup_next m' p va l) (walk_from n m' p va))
-          × (◌≡◌ {A = List ℕ} (descaddr p va l ∷ after_next (lookup_next m p va l) (fetches_from n m p va))
-          (descaddr p va l ∷ after_next (lookup_next m' p va l) (fetches_from n m' p va)))
-      go (deeper k) e ih =
-          let both = ih k (rw e at (agree-tail m m' _ _ h)) in
-          rw (← same, e) (both.0, ap (λ (t : List ℕ). descaddr p va l ∷ t) both.1)
-      go (ends r) e ih = rw (← same, e) (refl, refl)
+  from-agrees (suc n) l h = grind (arith, same_next, agree-head, agree-tail, from-agrees n)
 
   range-agrees : (g : Range) → Agree m m' (fetches_range p g va m)
       → (walk_range p g va m ≡ walk_range p g va m') × (fetches_range p g va m ≡ fetches_range p g va m')
@@ -69,32 +54,21 @@ agrees-fetches s r va m m' h = grind (arith, range-agrees)
 
 few-from : (n : ℕ) (m : ℕ → Option ℕ) (p : Params) (va : ℕ) (l : Lookup) → length (fetches_from n m p va l) ≤ n
 unfolding fetches_from
-few-from zero m p va l = zero-le
-few-from (suc n) m p va l = go (lookup_next m p va l) (few-from n m p va)
-  where
-    go : (x : Next) → ((k : Lookup) → length (fetches_from n m p va k) ≤ n)
-        → length (descaddr p va l ∷ after_next x (fetches_from n m p va)) ≤ suc n
-    go (deeper k) ih = suc-le-suc (ih k)
-    go (ends r) ih = suc-le-suc zero-le
+few-from zero m p va l = grind arith
+few-from (suc n) m p va l = grind (arith, few-from n m p va)
 
 few-range : (p : Params) (g : Range) (va : ℕ) (m : ℕ → Option ℕ) → length (fetches_range p g va m) ≤ levels_of g.largegrain
 unfolding fetches_range
-few-range p g va m = grind (arith, le_trans, few-from, level-count)
+few-range p g va m = grind (arith, few-from, level-count)
 
 -- at most four descriptors with a granule of 4 KiB, three with one of 64 KiB
 pub few-fetches : (s : Bank) (r : Regime) (va : ℕ) (m : ℕ → Option ℕ) → length (fetches_of s r va m) ≤ levels_of (range_of s r va).largegrain
 unfolding fetches_of
 few-fetches s r va m = grind (arith, few-range)
 
--- two windows of RAM whose words agree where the walk fetches give one walk
-pub ram-agrees : (s : Bank) (r : Regime) (va base : ℕ) (ram : List ℕ) (base' : ℕ) (ram' : List ℕ)
-    → ((a : ℕ) → Memᴰ a (fetches_of s r va (word_at base ram 8)) → word_at base ram 8 a ≡ word_at base' ram' 8 a)
-    → walk_of s r va (word_at base ram 8) ≡ walk_of s r va (word_at base' ram' 8)
-ram-agrees s r va base ram base' ram' h = agrees s r va _ _ (agree-all _ _ _ h)
-
--- and so do two of one base and length that agree on the bytes of each descriptor fetched, where it lies inside
+-- two windows of RAM of one base and length that agree on the bytes of each descriptor fetched, where it lies inside, give one walk
 pub bytes-agree : (s : Bank) (r : Regime) (va base : ℕ) (ram ram' : List ℕ) → length ram ≡ length ram'
     → ((a : ℕ) → Memᴰ a (fetches_of s r va (word_at base ram 8)) → base ≤ a → a + 8 ≤ base + length ram
     → (i : ℕ) → i < 8 → get_or ram (a - base + i) 0 ≡ get_or ram' (a - base + i) 0)
     → walk_of s r va (word_at base ram 8) ≡ walk_of s r va (word_at base ram' 8)
-bytes-agree s r va base ram ram' e h = ram-agrees s r va base ram base ram' (λ a k. word-agree base ram ram' 8 a e (h a k))
+bytes-agree s r va base ram ram' e h = search (rules, agrees, agree-all, word-agree)

@@ -4,7 +4,7 @@ use Rattle.std.specs.Prelude.{Err}
 use mathlib.Core.Path.{◌≡◌, sym, ap, ◌∙◌}
 use mathlib.Core.Bool.{Bool, true, false, ◌&&◌, ◌||◌}
 use Prim.Native.Nat.{ℕ, ◌+◌, ◌-◌, ◌*◌, ◌/◌, ◌%◌, ◌^◌, ◌≤◌, ◌<◌}
-use native.Mathlib.Nat.{mod-lt, lt_of_lt_of_le, le_of_lt}
+use native.Mathlib.Nat.{mod-lt}
 use native.Mathlib.Omega.{arith}
 use lib.Bits.{bit_or}
 use lib.Pow.{shl-shr, shr-shr, mod-pow-add, high, pow_pos, pow_mono}
@@ -27,7 +27,7 @@ index_is va top lsb h k =
 
 -- an index is small
 pub index-small : (va top lsb : ℕ) → lsb ≤ top → top ≤ 48 → field va lsb (top - lsb) < 2 ^ 48
-index-small va top lsb h k = lt_of_lt_of_le (mod-lt (va / 2 ^ lsb) (pow_pos (top - lsb))) (pow_mono {i = top - lsb} {j = 48} (omega arith))
+index-small va top lsb h k = grind (arith, mod-lt, pow_pos, pow_mono)
 
 -- what the indexes and the table's base come to
 pub skip-fits : (p : Params) (w : WalkState) → Standing p w → 64 - w.top < 64
@@ -39,7 +39,7 @@ skip-more p w st = omega (arith, st.below_top, st.top)
 module _ (p : Params) (w : WalkState) (va : ℕ) (st : Standing p w) where
   pub address_is : w.table + (va * 2 ^ (64 - w.top)) % 2 ^ 64 / 2 ^ (64 - w.top + w.lsb) * 8 ≡ descaddr p va (lookup_of p w)
   unfolding descaddr
-  address_is = rw (index_is va w.top w.lsb (le_of_lt st.below_top) (omega (arith, st.top)), ← st.lsb)
+  address_is = grind (arith, index_is)
 
   pub index-fits : (va * 2 ^ (64 - w.top)) % 2 ^ 64 / 2 ^ (64 - w.top + w.lsb) * 8 < 2 ^ 64
   index-fits = grind (arith, index_is, index-small)

@@ -15,3 +15,4 @@ pub mod TagLaws
 pub mod SizeLaws
 pub mod PermissionLaws
 pub mod FetchLaws
+pub mod VisitLaws

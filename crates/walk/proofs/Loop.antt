@@ -1,20 +1,18 @@
 -- The loop over the levels: a step that leads on stands one level lower and ends as before; a step that is done has the walk's answer.
-use Rattle.std.proofs.Common.{rules}
 use Rattle.std.specs.Prelude.{Ok, Err, Option, length}
 use Rattle.walk.specs.Answers.{Begin, Walked}
-use mathlib.Core.Path.{◌≡◌, refl}
+use mathlib.Core.Path.{◌≡◌}
 use mathlib.Core.Bool.{Bool, not, ◌||◌}
 use Prim.Native.Nat.{ℕ, suc, ◌-◌, ◌<◌, ◌%◌, ◌^◌}
 use native.Mathlib.Omega.{arith}
 use Rattle.word.specs.Bits.{align_down}
-use Rattle.word.proofs.BitLaws.{align-le}
 use Rattle.walk.specs.Table.{Lookup, Next, deeper, lookup_next}
 use Rattle.walk.specs.Table.{walk_from, walk_range, table_walk, range_of, params_of, first_lookup, startlevel, inputsize, in_range, beyond, addrselectbottom}
 use Rattle.walk.specs.Table.{baselowerbound}
 use Rattle.walk.specs.Walk.{walked_of, walk_of}
 use Rattle.walk.specs.Fetches.{fetches_from, fetches_range, fetches_of}
 use Rattle.walk.proofs.FetchLaws.{few-fetches}
-use Rattle.walk.specs.State.{lookup_of, onward, answers, stepped, meant, Standing, Onwards, Leads, next, found, fault, begin_of}
+use Rattle.walk.specs.State.{lookup_of, onward, answers, stepped, meant, Standing, Onwards, Leads, begin_of}
 use Rattle.walk.specs.declared.{regime.Bank.Bank, range.Range.Range}
 use Rattle.sysreg.specs.declared.regs.Regime.{Regime}
 use Rattle.walk.specs.declared.{level.Params.Params, level.WalkState.WalkState, level.Leaf.Leaf}
@@ -25,17 +23,9 @@ use Rattle.walk.specs.declared.level.Step.TheVariants.{Next as Onward, Leaf as F
 pub apart : (l : Lookup) (a : Walked) → onward l ≡ answers a → ⊥
 apart l a e = let z : ◌≡◌ {A = ℕ} 0 1 = cc in omega arith
 
-steps_apart : (p : Params) (w : WalkState) (a : Walked) (s : Step) → stepped p s ≡ answers a → s ≡ Onward w → ⊥
-steps_apart p w a s h e = apart (lookup_of p w) a (rw e at h)
-
-onward-state : (w v : WalkState) → Onward w ≡ Onward v → w ≡ v
-onward-state w v e = cc
-
 -- a step that leads on
 leads-on : (p : Params) (w v : WalkState) (s : Step) → Leads p w s → s ≡ Onward v → Onwards p w v
-leads-on p w v (Onward u) (next o) e = rw (onward-state u v e) at o
-leads-on p w v (Found leaf) found e = absurd (steps_apart p v _ _ refl e)
-leads-on p w v (Fault status) fault e = absurd (steps_apart p v _ _ refl e)
+leads-on p w v s h e = grind arith
 
 pub is-deeper : (p : Params) (l : Lookup) (n : Next) → onward l ≡ meant p n → n ≡ deeper l
 is-deeper p l n e = grind arith
@@ -63,11 +53,11 @@ module _ (memory : ℕ → Option ℕ) (p : Params) (w : WalkState) (va : ℕ) (
 
   pub leaf-right : (leaf : Leaf) (a : Walked) → s ≡ Found leaf → Standing p w → Left w a → Ok leaf ≡ a
   unfolding walk_from
-  leaf-right leaf a n = grind (arith, apart)
+  leaf-right leaf a n = grind arith
 
   pub fault-right : (status : ℕ) (a : Walked) → s ≡ Fault status → Standing p w → Left w a → Err status ≡ a
   unfolding walk_from
-  fault-right status a n = grind (arith, apart)
+  fault-right status a n = grind arith
 
   -- the descriptors that are read from here on
   abbrev Rest : WalkState → ℕ
@@ -84,11 +74,11 @@ module _ (memory : ℕ → Option ℕ) (p : Params) (w : WalkState) (va : ℕ) (
 
   pub leaf-read : (leaf : Leaf) → s ≡ Found leaf → Standing p w → Rest w ≡ 1
   unfolding fetches_from
-  leaf-read leaf n = grind (arith, apart)
+  leaf-read leaf n = grind arith
 
   pub fault-read : (status : ℕ) → s ≡ Fault status → Standing p w → Rest w ≡ 1
   unfolding fetches_from
-  fault-read status n = grind (arith, apart)
+  fault-read status n = grind arith
 
 -- where a walk begins it stands, and what it stands for is the manual's first table
 pub at-inj : (w v : WalkState) → ◌≡◌ {A = Begin} (Ok w) (Ok v) → w ≡ v
@@ -125,32 +115,29 @@ module _ (s : Bank) (r : Regime) (va : ℕ) (memory : ℕ → Option ℕ) (g : R
   unfolding begin_of fetches_range first
   read-begun w a b ea eb e = grind arith
 
-  fetched : fetches_range p g va memory ≡ fetches_of s r va memory
-  unfolding fetches_of params_of
-  fetched = rw (ep, eg)
-
   pub walk_begun : (w : WalkState) → x ≡ Ok w
       → walked_of p.singlepriv p.wxn (walk_from (4 - w.level) memory p va (lookup_of p w)) ≡ walk_of s r va memory
   unfolding begin_of walk_range first walk_of table_walk params_of
-  walk_begun w n = grind (arith, refused-at, at-inj, first-is, align-le)
+  walk_begun w n = grind arith
 
   pub walk_refused : (n : ℕ) → x ≡ Err n → Err n ≡ walk_of s r va memory
   unfolding begin_of walk_range walk_of table_walk params_of
-  walk_refused n e = grind (arith, at-refused)
+  walk_refused n e = grind arith
 
   pub reads_begun : (w : WalkState) → x ≡ Ok w
       → length (fetches_from (4 - w.level) memory p va (lookup_of p w)) ≡ length (fetches_of s r va memory)
-  reads_begun w n = grind (arith, read-begun, fetched)
+  unfolding fetches_of params_of
+  reads_begun w n = grind (arith, read-begun)
 
   pub reads_refused : (n : ℕ) → x ≡ Err n → 0 ≡ length (fetches_of s r va memory)
   unfolding begin_of fetches_range fetches_of params_of
-  reads_refused n e = grind (arith, at-refused)
+  reads_refused n e = grind arith
 
 -- whatever memory holds
 pub begins-standing : (s : Bank) (r : Regime) (va : ℕ) (g : Range) (p : Params) (x : Begin) (w : WalkState) → g ≡ range_of s r va
     → p ≡ params_of s r g → x ≡ begin_of g p.outputsize va → x ≡ Ok w → Standing p w
 unfolding begin_of walk_range first params_of
-begins-standing s r va g p x w eg ep ex n = search (rules, refused-at, at-inj, first-is, align-le)
+begins-standing s r va g p x w eg ep ex n = grind arith
 
 pub ruleset walk_steps = (
   begins-standing,

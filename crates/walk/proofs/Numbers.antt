@@ -8,7 +8,7 @@ use Rattle.sysreg.specs.Regs.{single_priv}
 use Rattle.walk.specs.Descriptor.{not_global}
 use Rattle.walk.specs.Table.{Result, mapped, faults, grainsize}
 use Rattle.walk.specs.Table.{addrselectbottom, outputaddress, Lookup, Next, deeper, ends, range_of, params_of}
-use Rattle.walk.specs.Table.{table_next, leaf_translation, leaf_result, level_next, descaddr, lookup_next, on_next, walk_from, walk_range, table_walk}
+use Rattle.walk.specs.Table.{table_next, leaf_translation, leaf_result, level_next, descaddr, lookup_next, walk_from, walk_range, table_walk}
 use Rattle.walk.specs.Walk.{walked_of, walk_of}
 use Rattle.walk.specs.Answers.{Walked}
 use Rattle.walk.specs.Numbers.{StartsAt, LeafMaps, TableMaps, FirstMaps, EachLeaf}
@@ -36,12 +36,7 @@ module _ (p : Params) (va : ℕ) where
   from-placed : (n : ℕ) (memory : ℕ → Option ℕ) (l : Lookup) → Placed p.largegrain p.singlepriv va (walk_from n memory p va l)
   unfolding walk_from
   from-placed zero memory l = tt
-  from-placed (suc n) memory l = go (lookup_next memory p va l) (lookup-placed memory l) (λ k. from-placed n memory k)
-    where
-      go : (x : Next) → PlacedNext p.largegrain p.singlepriv va x → ((k : Lookup) → Placed p.largegrain p.singlepriv va (walk_from n memory p va k))
-          → Placed p.largegrain p.singlepriv va (on_next x (walk_from n memory p va))
-      go (deeper k) hk ih = ih k
-      go (ends r) hr ih = hr
+  from-placed (suc n) memory l = grind (arith, lookup-placed, from-placed n)
 
   range-placed : (g : Range) (memory : ℕ → Option ℕ) → Placed p.largegrain p.singlepriv va (walk_range p g va memory)
   unfolding walk_range

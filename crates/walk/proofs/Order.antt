@@ -13,7 +13,7 @@ use Rattle.walk.specs.Table.{Result, mapped, faults, address_size, translation, 
 use Rattle.walk.specs.Table.{deeper, ends, first_lookup, range_of, params_of, table_next, leaf_translation, leaf_result, level_next, descaddr, lookup_next}
 use Rattle.walk.specs.Table.{walk_from, walk_range, table_walk}
 use Rattle.walk.specs.Walk.{leaf_of, walked_of, walk_of}
-use Rattle.walk.proofs.SizeLaws.{pa-size-low, pa-size-high, start-level}
+use Rattle.walk.proofs.SizeLaws.{pa-size-low, pa-size-high}
 use Rattle.walk.proofs.WalkBounds.{next_level}
 use Rattle.walk.specs.Fetches.{fetches_range, fetches_of}
 use Rattle.walk.specs.declared.{regime.Bank.Bank, level.Params.Params}
@@ -98,12 +98,12 @@ module _ (s : Bank) (r : Regime) (va : ℕ) (memory : ℕ → Option ℕ) where
   first-stage : in_range (range_of s r va) va ≡ true → (range_of s r va).disabled ≡ false
       → beyond (params_at s r va).outputsize (range_of s r va).baseregister ≡ false → Stage s r va memory (first_lookup (range_of s r va))
   unfolding table_walk walk_range
-  first-stage e d b = record { level = start-level (range_of s r va); walk = rw (e, b, d) }
+  first-stage e d b = grind arith
 
   pub one_down : (l k : Lookup) → l.level ≤ 3 → lookup_next memory (params_at s r va) va l ≡ deeper k
       → (k.level ≡ l.level + 1) × (k.level ≤ 3)
   unfolding params_of
-  one_down l k h e = next_level (params_at s r va) (pa-size-low _) (pa-size-high _) va memory l k h e
+  one_down l k h e = grind (arith, next_level, pa-size-low, pa-size-high)
 
   next-stage : (l k : Lookup) → Stage s r va memory l → lookup_next memory (params_at s r va) va l ≡ deeper k → Stage s r va memory k
   unfolding walk_from

@@ -1,25 +1,22 @@
 -- A walk goes by pages: addresses of one page have one walk but for the offset in the page, which is the address's own.
 use Rattle.std.specs.Prelude.{◌≡◌, Option, Ok, Err}
-use Rattle.std.proofs.Math.Path.{refl, sym, ap}
-use Rattle.std.proofs.Common.{subst, ◌∙◌, arith}
+use Rattle.std.proofs.Math.Path.{refl}
+use Rattle.std.proofs.Common.{arith}
 use Rattle.std.proofs.Math.Bool.{Bool}
-use mathlib.Core.List.{List, ◌∷◌}
 use Prim.Native.Nat.{ℕ, zero, suc, ◌/◌, ◌%◌, ◌^◌, ◌≤◌}
 use Rattle.word.specs.Bits.{align_down}
 use Rattle.word.proofs.BitLaws.{same_above, join-above}
 use Rattle.walk.specs.Table.{Translation, Result, mapped, faults}
 use Rattle.walk.specs.Table.{addrselectbottom, outputaddress, Lookup, Next, deeper, ends, range_of}
-use Rattle.walk.specs.Table.{leaf_translation, leaf_result, level_next, descaddr, lookup_next, on_next, walk_from, walk_range, table_walk}
+use Rattle.walk.specs.Table.{leaf_translation, leaf_result, level_next, descaddr, lookup_next, walk_from, walk_range, table_walk}
 use Rattle.walk.specs.Walk.{walked_of, walk_of}
-use Rattle.walk.proofs.SizeLaws.{input-low, index-above-page}
-use Rattle.walk.specs.WalkBounds.{SoundWalked}
+use Rattle.walk.proofs.SizeLaws.{index-above-page}
 use Rattle.walk.proofs.WalkBounds.{walk-sound}
-use Rattle.walk.specs.Fetches.{after_next, fetches_from, fetches_range, fetches_of}
+use Rattle.walk.specs.Fetches.{fetches_from, fetches_range, fetches_of}
 use Rattle.walk.specs.declared.{regime.Bank.Bank, range.Range.Range, level.Params.Params}
 use Rattle.sysreg.specs.declared.regs.Regime.{Regime}
 use Rattle.walk.specs.declared.level.Leaf.{Leaf}
 use Rattle.walk.specs.PageLaws.{paged_leaf, paged, leaf_at}
-use Rattle.walk.specs.Answers.{Walked}
 
 -- the same of the manual's results
 abbrev paged_found : Translation → Translation
@@ -36,12 +33,6 @@ paged_next (ends r) = ends (paged_result r)
 
 deeper-inj : (l k : Lookup) → deeper l ≡ deeper k → l ≡ k
 deeper-inj l k e = cc
-
-ends-inj : (r q : Result) → ends r ≡ ends q → r ≡ q
-ends-inj r q e = cc
-
-deeper-ends : (l : Lookup) (r : Result) → deeper l ≡ ends r → ⊥
-deeper-ends l r e = let z : ◌≡◌ {A = ℕ} 0 1 = cc in omega arith
 
 paged-walked : (singlepriv wxn : Bool) (x : Result) → paged (walked_of singlepriv wxn x) ≡ walked_of singlepriv wxn (paged_result x)
 paged-walked singlepriv wxn x = grind arith
@@ -78,37 +69,20 @@ module _ (va vb : ℕ) (same : va / 2 ^ 12 ≡ vb / 2 ^ 12) where
     from-page : (n : ℕ) (memory : ℕ → Option ℕ) (l : Lookup) → paged_result (walk_from n memory p va l) ≡ paged_result (walk_from n memory p vb l)
     unfolding walk_from
     from-page zero memory l = refl
-    from-page (suc n) memory l = go (lookup_next memory p va l) (lookup_next memory p vb l) (lookup-page memory l) (from-page n memory)
-      where
-        go : (x y : Next) → paged_next x ≡ paged_next y
-            → ((k : Lookup) → paged_result (walk_from n memory p va k) ≡ paged_result (walk_from n memory p vb k))
-            → paged_result (on_next x (walk_from n memory p va)) ≡ paged_result (on_next y (walk_from n memory p vb))
-        go (deeper k) (deeper j) e ih = rw (deeper-inj k j e) (ih j)
-        go (deeper k) (ends r) e ih = absurd (deeper-ends k _ e)
-        go (ends r) (deeper j) e ih = absurd (deeper-ends j _ (sym e))
-        go (ends r) (ends q) e ih = ends-inj _ _ e
+    from-page (suc n) memory l = let e = lookup-page memory l in grind (arith, from-page n memory)
 
     range-page : (g : Range) (memory : ℕ → Option ℕ) → paged_result (walk_range p g va memory) ≡ paged_result (walk_range p g vb memory)
     unfolding walk_range
-    range-page g memory = grind (arith, input-low, above, from-page)
+    range-page g memory = grind (arith, above, from-page)
 
     fetches-page : (n : ℕ) (memory : ℕ → Option ℕ) (l : Lookup) → fetches_from n memory p va l ≡ fetches_from n memory p vb l
     unfolding fetches_from
     fetches-page zero memory l = refl
-    fetches-page (suc n) memory l =
-        rw (same_address l) (ap (λ (t : List ℕ). descaddr p vb l ∷ t)
-        (go (lookup_next memory p va l) (lookup_next memory p vb l) (lookup-page memory l) (fetches-page n memory)))
-      where
-        go : (x y : Next) → paged_next x ≡ paged_next y → ((k : Lookup) → fetches_from n memory p va k ≡ fetches_from n memory p vb k)
-            → after_next x (fetches_from n memory p va) ≡ after_next y (fetches_from n memory p vb)
-        go (deeper k) (deeper j) e ih = rw (deeper-inj k j e) (ih j)
-        go (deeper k) (ends r) e ih = absurd (deeper-ends k _ e)
-        go (ends r) (deeper j) e ih = absurd (deeper-ends j _ (sym e))
-        go (ends r) (ends q) e ih = refl
+    fetches-page (suc n) memory l = let e = lookup-page memory l in grind (arith, same_address, fetches-page n memory)
 
     fetches-range-page : (g : Range) (memory : ℕ → Option ℕ) → fetches_range p g va memory ≡ fetches_range p g vb memory
     unfolding fetches_range
-    fetches-range-page g memory = grind (arith, input-low, above, fetches-page)
+    fetches-range-page g memory = grind (arith, above, fetches-page)
 
   -- addresses of one page lie in one range
   pub range-of-page : (s : Bank) (r : Regime) → range_of s r va ≡ range_of s r vb
@@ -128,13 +102,7 @@ module _ (va vb : ℕ) (same : va / 2 ^ 12 ≡ vb / 2 ^ 12) where
 -- the offset is the address's own
 pub leaf-offset : (s : Bank) (r : Regime) (va : ℕ) (memory : ℕ → Option ℕ) (leaf : Leaf) → walk_of s r va memory ≡ Ok leaf
     → leaf.oa % 2 ^ 12 ≡ va % 2 ^ 12
-leaf-offset s r va memory leaf e = (subst (SoundWalked va) e (walk-sound s r va memory)).1
-
-mapped-inj : (x y : Leaf) → ◌≡◌ {A = Walked} (Ok x) (Ok y) → x ≡ y
-mapped-inj x y e = cc
-
-fault-mapped : (n : ℕ) (x : Leaf) → ◌≡◌ {A = Walked} (Err n) (Ok x) → ⊥
-fault-mapped n x e = let z : ◌≡◌ {A = ℕ} 0 1 = cc in omega arith
+leaf-offset s r va memory leaf e = grind (arith, walk-sound)
 
 same-leaf : (x y : Leaf) (va : ℕ) → paged_leaf x ≡ paged_leaf y → y.oa % 2 ^ 12 ≡ va % 2 ^ 12 → y ≡ leaf_at x va
 same-leaf x y va e o = grind arith
@@ -142,22 +110,8 @@ same-leaf x y va e o = grind arith
 module _ (s : Bank) (r : Regime) (va vb : ℕ) (memory : ℕ → Option ℕ) (same : va / 2 ^ 12 ≡ vb / 2 ^ 12) where
   -- so the leaf of one address of a page tells that of another
   pub leaf-of-page : (leaf : Leaf) → walk_of s r va memory ≡ Ok leaf → walk_of s r vb memory ≡ Ok (leaf_at leaf vb)
-  leaf-of-page leaf e = go (walk_of s r vb memory) refl
-    where
-      both : paged (Ok leaf) ≡ paged (walk_of s r vb memory)
-      both = rw e at (walk_of-page va vb same s r memory)
-
-      go : (x : Walked) → walk_of s r vb memory ≡ x → walk_of s r vb memory ≡ Ok (leaf_at leaf vb)
-      go (Ok y) f = f ∙ ap Ok (same-leaf leaf y vb (mapped-inj _ _ (rw f at both)) (leaf-offset s r vb memory y f))
-      go (Err n) f = absurd (fault-mapped n _ (sym (rw f at both)))
+  leaf-of-page leaf e = let both = walk_of-page va vb same s r memory in grind (arith, same-leaf, leaf-offset)
 
   -- and a fault is the page's
   pub fault-of-page : (n : ℕ) → walk_of s r va memory ≡ Err n → walk_of s r vb memory ≡ Err n
-  fault-of-page n e = go (walk_of s r vb memory) refl
-    where
-      both : paged (Err n) ≡ paged (walk_of s r vb memory)
-      both = rw e at (walk_of-page va vb same s r memory)
-
-      go : (x : Walked) → walk_of s r vb memory ≡ x → walk_of s r vb memory ≡ Err n
-      go (Ok y) f = absurd (fault-mapped n _ (rw f at both))
-      go (Err m) f = f ∙ sym (rw f at both)
+  fault-of-page n e = let both = walk_of-page va vb same s r memory in grind arith

@@ -30,3 +30,8 @@ visit_of s r va memory n =
 abbrev pub seen_as : Params → Visited → Seen
 seen_as p (Some v) = seen (lookup_of p v.state) v.at (stepped p v.step)
 seen_as p None = past
+
+-- the address of the descriptor read
+abbrev pub seen_address : Seen → Option ℕ
+seen_address (seen l at step) = Some at
+seen_address past = None

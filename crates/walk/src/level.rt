@@ -121,6 +121,7 @@ fn table_step(p: Params, w: WalkState, desc: Descriptor) -> Step
 }
 
 // The attributes of a leaf that decide permission.
+#[inline(always)]
 #[tactic(auto, unfolding(crate::specs::Table::leaf_permissions))]
 fn permissions(p: Params, w: WalkState, desc: Descriptor) -> Permissions
     ensures { result ≡ leaf_permissions p (lookup_of p w) desc.0 }
@@ -137,6 +138,7 @@ fn permissions(p: Params, w: WalkState, desc: Descriptor) -> Permissions
 
 // A block or page descriptor: the leaf, unless blocks are not allowed there, its output lies beyond the output size,
 // or its access flag is clear.
+#[inline(always)]
 #[tactic(auto, using(crate::proofs::Levels::leaves), unfolding(crate::specs::Table::leaf_result, crate::specs::Table::leaf_translation))]
 fn leaf_step(p: Params, w: WalkState, va: u64, desc: Descriptor) -> Step
     requires standing { Standing p w }
@@ -166,6 +168,7 @@ fn leaf_step(p: Params, w: WalkState, va: u64, desc: Descriptor) -> Step
 }
 
 // What the descriptor of the level leads to.
+#[inline(always)]
 #[tactic(auto, using(crate::proofs::Levels::fault_leads), unfolding(crate::specs::Table::lookup_next, crate::specs::Table::level_next))]
 pub(crate) fn lookup(p: Params, w: WalkState, va: u64, base: u64, ram: &[u8]) -> Step
     requires standing { Standing p w }
