@@ -1,11 +1,11 @@
 -- Over every history the cache of History.antt does to the plain model what the model's own functions do.
 use Rattle.std.proofs.Common.{arith, rules, ap₂, ◌∙◌}
 use Rattle.std.specs.Prelude.{◌≡◌, List, [], ◌∷◌, ◌++◌, ℕ, ◌≤◌}
-use Rattle.std.proofs.Math.Path.{refl, ap, subst}
+use Rattle.std.proofs.Math.Path.{refl, ap}
 use Rattle.std.proofs.Math.Bool.{true, false}
-use Rattle.tlb.specs.Tlb.{fresh, invalidate_of}
+use Rattle.tlb.specs.Tlb.{fresh}
 use Rattle.tlb.specs.Maintenance.{invalidated_of, reshaped_of, retagged_of}
-use Rattle.tlb.specs.Model.{Model, empty_model, broadcast}
+use Rattle.tlb.specs.Model.{Model, empty_model, invalidate}
 use Rattle.tlb.specs.Live.{live, WellFormed, LeafLevel, Follows}
 use Rattle.tlb.proofs.Refines.{fresh-live, fresh-sound, flush-live, flush-sound, invalidate-live, invalidate-sound, retag-live, retag-sound, broadcast-live}
 use Rattle.tlb.proofs.Refines.{broadcast-sound}
@@ -69,11 +69,7 @@ module _ (w : World) (laws : Laws w) where
   unfolding invalidated_of
   effect-stands nothing c t s = record { well = s; is = refl }
   effect-stands (carries v false) c t s = record { well = invalidate-sound t s v; is = invalidate-live t s v }
-  effect-stands (carries v true) c t s =
-      record {
-        well = broadcast-sound (invalidate_of t v) v (invalidate-sound t s v);
-        is = broadcast-live (invalidate_of t v) v ∙ ap (broadcast v) (invalidate-live t s v);
-      }
+  effect-stands (carries v true) c t s = grind (arith, broadcast-sound, broadcast-live, invalidate-sound, invalidate-live)
   effect-stands (writes R) c t s = retagged-stands (w.asid R) (flushed-stands c.regs R t s)
   effect-stands (sets privilege low) c t s = record { well = s; is = refl }
 
@@ -81,14 +77,8 @@ module _ (w : World) (laws : Laws w) where
 
   pub event-stands : (x : Event w) (c : Plain w) {t : Tlb} {u : Model} → c.privilege.level ≤ 3 → StandsFor t u
       → StandsFor (tlb_event w x c t) (model_event w x c u)
-  event-stands x c {t} low r = subst (λ (u : Model). StandsFor (tlb_event w x c t) (model_event w x c u)) r.is (go x)
-    where
-      go : (y : Event w) → StandsFor (tlb_event w y c t) (model_event w y c (live t))
-      go (steps m s) =
-          let l = asks-stand c m low s.asks t r.well in
-          subst (λ (u : Model). StandsFor (tlb_after w s.effect c (tlb_asks w c m s.asks t)) (model_after w s.effect c u)) l.is
-          (effect-stands s.effect c (tlb_asks w c m s.asks t) l.well)
-      go (receives v) = record { well = invalidate-sound t r.well v; is = invalidate-live t r.well v }
+  event-stands (steps m s) c low r = grind (arith, asks-stand, effect-stands)
+  event-stands (receives v) c {t} low r = record { well = invalidate-sound t r.well v; is = invalidate-live t r.well v ∙ ap (invalidate v) r.is }
 
   -- HISTORIES
 

@@ -1,5 +1,5 @@
 -- Faithfulness, proved for every registers and walk that keep `Laws`.
-use Rattle.std.proofs.Common.{rules, sym, ap, ◌∙◌, inl, inr}
+use Rattle.std.proofs.Common.{rules, arith, sym, ap, ◌∙◌, inl, inr}
 use Rattle.std.specs.Prelude.{if◌then◌else◌, ◌≡◌, Bool, List, [], ◌∷◌, ◌++◌, ◌⊎◌, ℕ, ◌≤◌, ◌==◌, Ok, Err}
 use Rattle.std.proofs.Math.Path.{refl}
 use Rattle.std.proofs.Math.Bool.{true, false}
@@ -50,12 +50,7 @@ module _ (w : World) (laws : Laws w) where
   asks-traced : (h : List (Moment w)) (c : Plain w) (m : w.Ram) (l : List Ask) (u : Model) → Traced w (at c.regs m ∷ h) c.regs u
       → Traced w (at c.regs m ∷ h) c.regs (model_asks w c m l u)
   asks-traced h c m [] u s = s
-  asks-traced h c m (a ∷ l) u s = go (model_ask w c m a u).answer (asks-traced h c m l (model_ask w c m a u).after (ask-done h c m u s a).traced)
-    where
-      go : (x : Answer) → Traced w (at c.regs m ∷ h) c.regs (model_asks w c m l (model_ask w c m a u).after)
-          → Traced w (at c.regs m ∷ h) c.regs (onward x (model_asks w c m l (model_ask w c m a u).after) (model_ask w c m a u).after)
-      go (Ok pa) rest = rest
-      go (Err f) rest = (ask-done h c m u s a).traced
+  asks-traced h c m (a ∷ l) u s = let d = ask-done h c m u s a in grind (arith, asks-traced h c m l (model_ask w c m a u).after)
 
   -- what is left pending for others is no part of what a translation reads
   broadcast-traced : {h : List (Moment w)} {R : w.Regs} {u : Model} (v : Inval) → Traced w h R u → Traced w h R (broadcast v u)

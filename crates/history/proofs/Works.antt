@@ -70,11 +70,7 @@ module _ (w : World) where
       asks-add : (l : List Ask) (t : Tlb) (v : Work) → WellFormed t → v.reads < 2 ^ 64
           → Adds (works (access_of w c m) l t v) v (reads_of (made_in w c m l (live t)))
       asks-add [] t v s small = adds-none v small
-      asks-add (a ∷ l) t v s small =
-          let f = ask-follows w laws c m low a t s in
-          let one = asked-adds a t v s small in
-          let rest = asks-add l (tlb_ask w c m a t) (did t v a) f.well (adds-small (did t v a) v _ one) in
-          rw f.answer (more-add a l t v (model_ask w c m a (live t)).answer one (rw f.after at rest))
+      asks-add (a ∷ l) t v s small = let f = ask-follows w laws c m low a t s in let one = asked-adds a t v s small in grind (arith, asks-add l (tlb_ask w c m a t) (did t v a), adds-small, more-add)
 
     -- a history
     pub run-adds : (past : List (Event w)) (c : Plain w) {t : Tlb} {u : Model} (v : Work) → c.privilege.level ≤ 3 → StandsFor t u → v.reads < 2 ^ 64

@@ -1,10 +1,9 @@
 -- The windows of a list decoded one by one, on plain values.
-use Rattle.std.specs.Prelude.{◌≡◌, refl, ℕ, ◌+◌, ◌*◌, ◌^◌, ◌<◌, ◌≤◌, Bool, true, false, List, [], ◌∷◌, ◌++◌, length, take, replicate, nat_eq, EachIndex}
+use Rattle.std.specs.Prelude.{◌≡◌, refl, ℕ, ◌+◌, ◌*◌, ◌^◌, ◌<◌, ◌≤◌, List, length, take, replicate, EachIndex}
 use Rattle.std.specs.Prelude.{Option, Some, None, Ok, Err, slice_set}
-use Rattle.std.proofs.Common.{sym, ap, ap₂, ◌∙◌, add-one, length-set, get_or-set_same, get_or-set_other, arith}
+use Rattle.std.proofs.Common.{rules, sym, ap, ◌∙◌, add-one, length-set, arith}
 use Rattle.std.proofs.Math.Seq.{take-suc-set}
 use Rattle.std.proofs.Math.ListN.{get_or-replicate}
-use borrow.Author.Tests.{le-ltb, eqb-true, eqb-false, eq-eqb}
 use Rattle.word.specs.Tables.{table}
 use Rattle.windows.specs.Window.{window, none, first_in}
 use Rattle.windows.specs.List.{window_at, wrong_of, wrongs, unless, list_of, Counted}
@@ -15,9 +14,7 @@ use Rattle.windows.proofs.Reading.{read-none, read-some, read-fits}
 -- a list as long as it has to be is right or not by its windows
 pub counted-list : (bytes : List ℕ) (n : ℕ) → Counted bytes n → list_of bytes ≡ unless (first_in (wrongs bytes n)) (table n (window_at bytes n))
 unfolding list_of
-counted-list bytes n h =
-    let long : 2 ≤ length bytes = omega (arith, h.long) in
-    rw (le-ltb (length bytes) 2 long, sym h.counts, le-ltb 64 n h.few, eq-eqb (length bytes) (2 + 10 * n) h.long) refl
+counted-list bytes n h = grind arith
 
 -- a window that is right has few pages, and ends at 2^64 or before
 right-short : (i : ℕ) (w : Window) → wrong_of i w ≡ None → w.pages ≤ 16
@@ -29,17 +26,7 @@ right-within i w h = grind arith
 -- a fact of each window holds after one more that it holds of
 each-set : (P : Window → Type 0) (ws : List Window) (i : ℕ) (w : Window) → EachIndex ws (λ k. P (window ws k)) → P w
     → EachIndex (slice_set ws i w) (λ k. P (window (slice_set ws i w) k))
-each-set P ws i w h p k l = go (nat_eq k i) refl
-  where
-    low : k < length ws
-    low = rw (length-set ws i w) at l
-
-    go : (b : Bool) → nat_eq k i ≡ b → P (window (slice_set ws i w) k)
-    go true e =
-        let same : k ≡ i = eqb-true k i e in
-        let fits : i < length ws = rw same at low in
-        rw (same, get_or-set_same ws i w none fits) p
-    go false e = rw (get_or-set_other ws i k w none (eqb-false k i e)) (h k low)
+each-set P ws i w h p k l = search rules
 
 module _ (bytes : List ℕ) (n : ℕ) where
   abbrev pub wrong_at : ℕ → Option Malformed
@@ -66,19 +53,7 @@ module _ (bytes : List ℕ) (n : ℕ) where
 
   pub decoded-more : (i : ℕ) (ws : List Window) (w : Window) (x : Option Malformed) → Decoded i ws → i < 64 → w ≡ window_at bytes n i
       → x ≡ wrong_of i w → x ≡ None → Decoded (i + 1) (slice_set ws i w)
-  decoded-more i ws w x h l w-is e x-is =
-      record {
-        right = least-none wrong_at i h.right (ap (wrong_of i) (sym w-is) ∙ right);
-        same =
-            rw add-one (take-suc-set ws i w (rw h.long l)) ∙ ap₂ (λ (xs : List Window) (y : Window). xs ++ (y ∷ [])) h.same w-is
-            ∙ rw add-one (sym (table-snoc i (window_at bytes n)));
-        short = each-set (λ v. v.pages ≤ 16) ws i w h.short (right-short i w right);
-        within = each-set (λ v. v.start + 4096 * v.pages ≤ 2 ^ 64) ws i w h.within (right-within i w right);
-        long = length-set ws i w ∙ h.long;
-      }
-    where
-      right : wrong_of i w ≡ None
-      right = sym e ∙ x-is
+  decoded-more i ws w x h l w-is e x-is = search (rules, least-none, add-one, take-suc-set, table-snoc, each-set, right-short, right-within, length-set)
 
   pub decoded-wrong : (i : ℕ) (ws : List Window) (w : Window) (x : Option Malformed) (why : Malformed) → Counted bytes n → Decoded i ws → i < n
       → w ≡ window_at bytes n i → x ≡ wrong_of i w → x ≡ Some why → list_of bytes ≡ Err why

@@ -112,16 +112,7 @@ module _ (ws : List Window) (h : RightWindows ws) where
       let low : i < length ws = rw counted at l in rw (counted, window-is i low) (h.right i low)
 
   written-right : RightList bytes
-  written-right =
-      record {
-        begun = omega (arith, long-is);
-        few = rw counted h.few;
-        long = rw counted long-is;
-        starts = λ i l. (right-window i l).on_a_page;
-        some_pages = λ i l. (right-window i l).some;
-        few_pages = λ i l. (right-window i l).few;
-        within = λ i l. (right-window i l).within;
-      }
+  written-right = record { begun = omega (arith, long-is); few = rw counted h.few; long = rw counted long-is; right = right-window }
 
   pub written-read : list_of bytes ≡ Ok ws
   written-read =

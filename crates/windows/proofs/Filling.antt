@@ -1,8 +1,7 @@
 -- The pages of a window one by one, on plain values.
-use Rattle.std.specs.Prelude.{◌≡◌, ℕ, ◌+◌, ◌/◌, ◌<◌, ◌≤◌, List, [], ◌∷◌, ◌++◌, length, take, Option, Some, None, Ok, Err, slice_set, filter_map}
+use Rattle.std.specs.Prelude.{◌≡◌, ℕ, ◌+◌, ◌/◌, ◌<◌, ◌≤◌, List, length, take, Option, Some, None, Ok, Err, slice_set, filter_map}
 use Rattle.std.proofs.Common.{sym, ap, ◌∙◌, add-one, length-set, arith}
 use Rattle.std.proofs.Math.Seq.{take-suc-set}
-use Rattle.std.specs.List.{cons_option}
 use Rattle.fault.specs.declared.Fault.{Fault}
 use Rattle.sysreg.specs.declared.regs.Regime.{Regime}
 use Rattle.walk.specs.declared.regime.Bank.{Bank}
@@ -30,17 +29,7 @@ module _ (s : Bank) (r : Regime) (memory : ℕ → Option ℕ) (i : ℕ) (w : Wi
 
   pub filled-more : (j pa : ℕ) (row : List ℕ) (x : Answer) → Filled j row → j < 16 → x ≡ page_answer s r memory w j → x ≡ Ok pa
       → Filled (j + 1) (slice_set row j (pa / 4096))
-  filled-more j pa row x h l e x-is =
-      record {
-        no_fault = least-none page_fault j h.no_fault (ap (fault_in i j) is);
-        pages =
-            rw add-one (take-suc-set row j (pa / 4096) (rw h.long l)) ∙ ap (λ (xs : List ℕ). xs ++ (pa / 4096 ∷ [])) h.pages
-            ∙ ap (λ (o : Option ℕ). filter_map page_frame (below j) ++ cons_option o []) (sym (ap frame_in is)) ∙ sym (below-more page_frame j);
-        long = length-set row j (pa / 4096) ∙ h.long;
-      }
-    where
-      is : page_answer s r memory w j ≡ Ok pa
-      is = sym e ∙ x-is
+  filled-more j pa row x h l e x-is = grind (arith, least-none, add-one, take-suc-set, below-more, length-set)
 
   pub filled-fault : (j : ℕ) (row : List ℕ) (x : Answer) (f : Fault) → Filled j row → j < w.pages → x ≡ page_answer s r memory w j → x ≡ Err f
       → first_in (faults_in s r memory i w) ≡ Some (record { window = i; page = j; fault = f })
@@ -49,8 +38,7 @@ module _ (s : Bank) (r : Regime) (memory : ℕ → Option ℕ) (i : ℕ) (w : Wi
       ∙ least-some page_fault j w.pages (record { window = i; page = j; fault = f }) h.no_fault (ap (fault_in i j) (sym e ∙ x-is)) l
 
   pub filled-clear : (j : ℕ) (row : List ℕ) → Filled j row → j ≤ w.pages → w.pages ≤ j → first_in (faults_in s r memory i w) ≡ None
-  filled-clear j row h l m =
-      let same : j ≡ w.pages = omega arith in first-filter_map page_fault w.pages (λ k. k) ∙ rw same at h.no_fault
+  filled-clear j row h l m = grind (arith, first-filter_map)
 
   pub filled-pages : (j : ℕ) (row : List ℕ) → Filled j row → j ≤ w.pages → w.pages ≤ j → take w.pages row ≡ frames_in s r memory w
   filled-pages j row h l m = let same : j ≡ w.pages = omega arith in rw same at h.pages

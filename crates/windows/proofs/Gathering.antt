@@ -1,6 +1,6 @@
 -- The windows of a list one by one, on plain values.
-use Rattle.std.specs.Prelude.{◌≡◌, ℕ, ◌+◌, ◌<◌, ◌≤◌, ◌≢◌, List, length, take, Option, Some, None, slice_set}
-use Rattle.std.proofs.Common.{ap, ◌∙◌, length-set, arith, below_more, get_or-set_same, get_or-set_other, get_or-take}
+use Rattle.std.specs.Prelude.{◌≡◌, ℕ, ◌+◌, ◌<◌, ◌≤◌, List, length, take, Option, Some, None, slice_set}
+use Rattle.std.proofs.Common.{◌∙◌, length-set, arith, below_more, get_or-set_same, get_or-set_other, get_or-take}
 use Rattle.std.proofs.lemmas.List.{length-take-le}
 use Rattle.sysreg.specs.declared.regs.Regime.{Regime}
 use Rattle.walk.specs.declared.regime.Bank.{Bank}
@@ -33,25 +33,11 @@ module _ (s : Bank) (r : Regime) (memory : ℕ → Option ℕ) (ws : List Window
   pub gathered-more : (i : ℕ) (rows : List (List ℕ)) (row : List ℕ) → Gathered i rows → i < 64
       → first_in (faults_in s r memory i (window ws i)) ≡ None → take (window ws i).pages row ≡ frames_in s r memory (window ws i)
       → Gathered (i + 1) (slice_set rows i row)
-  gathered-more i rows row h l clear pages =
-      record {
-        no_fault = least-none window_fault i h.no_fault clear;
-        pages = below_more (λ k. row_of ws (slice_set rows i row) k ≡ frames_in s r memory (window ws k)) i before here;
-        long = length-set rows i row ∙ h.long;
-      }
-    where
-      before : (k : ℕ) → k < i → row_of ws (slice_set rows i row) k ≡ frames_in s r memory (window ws k)
-      before k m = let ne : k ≢ i = omega arith in rw get_or-set_other (h.pages k m)
-
-      here : row_of ws (slice_set rows i row) i ≡ frames_in s r memory (window ws i)
-      here = let fits : i < length rows = rw h.long l in rw get_or-set_same pages
+  gathered-more i rows row h l clear pages = grind (arith, least-none, below_more, length-set, get_or-set_other, get_or-set_same)
 
   module _ (count : ℕ) (few : count ≤ length ws) where
     faults-listed : first_in (faults_of s r memory (take count ws)) ≡ least window_fault count
-    faults-listed =
-        first-flat_map (λ i. faults_in s r memory i (window (take count ws) i)) (length (take count ws)) (λ i. i)
-        ∙ ap (least (λ i. first_in (faults_in s r memory i (window (take count ws) i)))) (length-listed ws count few)
-        ∙ least-same _ window_fault count (λ i l. ap (λ (w : Window). first_in (faults_in s r memory i w)) (window-listed ws count i l))
+    faults-listed = grind (arith, first-flat_map, length-listed, least-same, window-listed)
 
     pub gathered-fault : (i : ℕ) (rows : List (List ℕ)) (e : PageFault) → Gathered i rows → i < count
         → first_in (faults_in s r memory i (window ws i)) ≡ Some e → first_in (faults_of s r memory (take count ws)) ≡ Some e
@@ -61,8 +47,6 @@ module _ (s : Bank) (r : Regime) (memory : ℕ → Option ℕ) (ws : List Window
     gathered-clear i rows h e = faults-listed ∙ rw e at h.no_fault
 
     pub gathered-rows : (i : ℕ) (rows : List (List ℕ)) → Gathered i rows → i ≡ count → EachRow (take count ws) rows (frames_of s r memory (take count ws))
-    gathered-rows i rows h e k l =
-        let low : k < count = omega (arith, length-listed ws count few) in
-        rw (window-listed ws count k low) (h.pages k (omega arith))
+    gathered-rows i rows h e k l = grind (arith, length-listed, window-listed)
 
 pub ruleset gathering = (gathered-none, gathered-more, gathered-fault, gathered-clear, gathered-rows)

@@ -1,5 +1,5 @@
 -- What an answer says of pages and windows.
-use Rattle.std.specs.Prelude.{if◌then◌else◌, ◌≡◌, refl, ℕ, zero, suc, ◌/◌, ◌<◌, ◌≤◌, ◌⊎◌, ◌==◌, ◌||◌, Bool, true, false, List, length, nat_lt, Option, Some, None, Ok, Err, filter_map, unwrap_or}
+use Rattle.std.specs.Prelude.{◌≡◌, refl, ℕ, zero, suc, ◌/◌, ◌<◌, ◌≤◌, ◌⊎◌, ◌==◌, Bool, true, false, List, length, nat_lt, Option, Some, None, Ok, Err, filter_map, unwrap_or}
 use Rattle.std.specs.List.{list_any, cons_option}
 use Rattle.std.proofs.Common.{sym, ap, ◌∙◌, subst, inl, inr, not-suc-le-zero, arith}
 use borrow.Author.Tests.{lt-ltb, ltb-true, ltb-false, eqb-true, eq-eqb}
@@ -28,14 +28,8 @@ module _ {A : Type 0} where
 
   pub all-none : (f : ℕ → Option A) (n : ℕ) → least f n ≡ None → (k : ℕ) → k < n → f k ≡ None
   unfolding least
-  all-none f zero h k l = absurd (not-suc-le-zero l)
-  all-none f (suc n) h k l = go (nat_lt k n) refl (least f n) refl (all-none f n)
-    where
-      go : (b : Bool) → nat_lt k n ≡ b → (x : Option A) → least f n ≡ x → (least f n ≡ None → (m : ℕ) → m < n → f m ≡ None) → f k ≡ None
-      go b e (Some a) is all = absurd (let z : ◌≡◌ {A = Option A} (Some a) None = rw is at h in cc)
-      go true e None is all = all is k (ltb-true k n e)
-      go false e None is all =
-          let same : k ≡ n = (let high : n ≤ k = ltb-false k n e in omega arith) in rw same (rw is at h)
+  all-none f zero h k l = grind arith
+  all-none f (suc n) h k l = grind (arith, all-none f n)
 
   pub found-at : (f : ℕ → Option A) (n : ℕ) (a : A) → least f n ≡ Some a → FoundAt f n a
   unfolding least
@@ -57,14 +51,10 @@ module _ {A : Type 0} where
 -- FAULTS
 
 fault-is : (i j : ℕ) (x : Answer) (e : PageFault) → fault_in i j x ≡ Some e → (x ≡ Err e.fault) × (e.window ≡ i) × (e.page ≡ j)
-fault-is i j (Ok pa) e h = absurd (let z : ◌≡◌ {A = Option PageFault} None (Some e) = h in cc)
-fault-is i j (Err f) e h =
-    let same : record { window = i; page = j; fault = f } ≡ e = cc in
-    (ap (λ (d : PageFault). Err d.fault) same, sym (ap (λ (d : PageFault). d.window) same), sym (ap (λ (d : PageFault). d.page) same))
+fault-is i j x e h = grind arith
 
 no-fault : (i j : ℕ) (x : Answer) → fault_in i j x ≡ None → (pa : ℕ) × (x ≡ Ok pa)
-no-fault i j (Ok pa) h = (pa, refl)
-no-fault i j (Err f) h = absurd (let z : ◌≡◌ {A = Option PageFault} (Some (record { window = i; page = j; fault = f })) None = h in cc)
+no-fault i j x h = grind arith
 
 module _ (control : Control) (level : ℕ) (memory : ℕ → Option ℕ) (ws : List Window) where
   abbrev ends : ℕ → ℕ → Answer
@@ -84,21 +74,17 @@ module _ (control : Control) (level : ℕ) (memory : ℕ → Option ℕ) (ws : L
   first_fault = least window_fault (length ws)
 
   first-is : first_in (faults_at control level memory ws) ≡ first_fault
-  first-is =
-      first-flat_map _ (length ws) (λ i. i)
-      ∙ least-same _ window_fault (length ws) (λ i l. first-filter_map (fault_at i) (window ws i).pages (λ j. j))
+  first-is = grind (arith, first-flat_map, least-same, first-filter_map)
 
   found-is : answer ≡ unless_fault first_fault (first_meeting (length ws) (frames_at control level memory ws))
   unfolding found_in
   found-is = ap (λ (o : Option PageFault). unless_fault o (first_meeting (length ws) (frames_at control level memory ws))) first-is
 
   by-fault : (o : Option PageFault) (p : Option Pair) (e : PageFault) → unless_fault o p ≡ Err (Error.Page e) → o ≡ Some e
-  by-fault (Some d) p e h = cc
-  by-fault None p e h = absurd (let z : ◌≡◌ {A = Found} (Ok p) (Err (Error.Page e)) = h in cc)
+  by-fault o p e h = grind arith
 
   by-none : (o : Option PageFault) (p q : Option Pair) → unless_fault o p ≡ Ok q → (o ≡ None) × (p ≡ q)
-  by-none (Some d) p q h = absurd (let z : ◌≡◌ {A = Found} (Err (Error.Page d)) (Ok q) = h in cc)
-  by-none None p q h = (refl, cc)
+  by-none o p q h = grind arith
 
   abbrev fault-found : (e : PageFault) → answer ≡ Err (Error.Page e) → FoundAt window_fault (length ws) e
   fault-found e h = found-at window_fault (length ws) e (by-fault _ _ e (sym found-is ∙ h))
@@ -160,13 +146,7 @@ module _ {A : Type 0} where
 
   among-cons : (test : A → Bool) (x : Option A) (xs : List A) → list_any test (cons_option x xs) ≡ true
       → ((a : A) × (x ≡ Some a) × (test a ≡ true)) ⊎ (list_any test xs ≡ true)
-  among-cons test None xs h = inr h
-  among-cons test (Some a) xs h = go (test a) refl h
-    where
-      go : (b : Bool) → test a ≡ b → (b || list_any test xs) ≡ true
-          → ((c : A) × (◌≡◌ {A = Option A} (Some a) (Some c)) × (test c ≡ true)) ⊎ (list_any test xs ≡ true)
-      go true e h = inl (a, refl, e)
-      go false e h = inr h
+  among-cons test x xs h = grind arith
 
   among-from : (test : A → Bool) (n : ℕ) (g : ℕ → Option A) (h : ℕ → ℕ) → list_any test (filter_map g (table n h)) ≡ true → Among test (λ i. g (h i)) n
   unfolding table
@@ -183,12 +163,7 @@ module _ {A : Type 0} where
   cons-among test x xs a is e = rw (is, e) refl
 
   cons-keeps : (test : A → Bool) (x : Option A) (xs : List A) → list_any test xs ≡ true → list_any test (cons_option x xs) ≡ true
-  cons-keeps test None xs e = e
-  cons-keeps test (Some a) xs e = rw e (or-true (test a))
-    where
-      or-true : (b : Bool) → (b || true) ≡ true
-      or-true true = refl
-      or-true false = refl
+  cons-keeps test x xs e = grind arith
 
   among-to : (test : A → Bool) (n : ℕ) (g : ℕ → Option A) (h : ℕ → ℕ) (i : ℕ) (a : A) → i < n → g (h i) ≡ Some a → test a ≡ true
       → list_any test (filter_map g (table n h)) ≡ true
@@ -200,7 +175,7 @@ module _ {A : Type 0} where
 
 frame-is : (x : Answer) (n : ℕ) → frame_in x ≡ Some n → (pa : ℕ) × (x ≡ Ok pa) × (pa / 4096 ≡ n)
 frame-is (Ok pa) n h = (pa, refl, ap (λ (o : Option ℕ). unwrap_or o 0) h)
-frame-is (Err f) n h = absurd (let z : ◌≡◌ {A = Option ℕ} None (Some n) = h in cc)
+frame-is (Err f) n h = grind arith
 
 module _ (control : Control) (level : ℕ) (memory : ℕ → Option ℕ) (ws : List Window) where
   abbrev page_of : ℕ → ℕ → Option ℕ
@@ -243,20 +218,10 @@ module _ (control : Control) (level : ℕ) (memory : ℕ → Option ℕ) (ws : L
   pair-search = least (meeting_of (length ws) pages) (length ws)
 
   search-is : (q : Option Pair) → found_in control level memory ws ≡ Ok q → pair-search ≡ q
-  search-is q h =
-      sym (first-least pages (length ws))
-      ∙ (by-none control level memory ws (first_fault control level memory ws) (first_meeting (length ws) pages) q
-      (sym (found-is control level memory ws) ∙ h)).1
+  search-is q h = grind (arith, first-least, by-none, found-is)
 
   pass-is : (i k : ℕ) (p : Pair) → meeting_with pages i k ≡ Some p → (i < k) × (meet (pages i) (pages k) ≡ true) × (pair i k ≡ p)
-  pass-is i k p h = go (nat_lt i k) (meet (pages i) (pages k)) refl refl h
-    where
-      go : (a b : Bool) → nat_lt i k ≡ a → meet (pages i) (pages k) ≡ b
-          → (if a then (if b then Some (pair i k) else None) else None) ≡ Some p
-          → (i < k) × (meet (pages i) (pages k) ≡ true) × (pair i k ≡ p)
-      go true true e f is = (ltb-true i k e, f, cc)
-      go true false e f is = absurd (let z : ◌≡◌ {A = Option Pair} None (Some p) = is in cc)
-      go false b e f is = absurd (let z : ◌≡◌ {A = Option Pair} None (Some p) = is in cc)
+  pass-is i k p h = grind arith
 
   pass-none : (i k : ℕ) → meeting_with pages i k ≡ None → i < k → shares i k → ⊥
   pass-none i k h l s =

@@ -1,7 +1,7 @@
 -- The first pair of windows, number by number.
 use Rattle.std.specs.Prelude.{if◌then◌else◌, ◌≡◌, refl, ℕ, zero, suc, ◌+◌, ◌<◌, ◌≤◌, Bool, true, false, List, Option, Some, None, nat_lt}
-use Rattle.std.proofs.Common.{sym, ap₂, ◌∙◌, arith}
-use borrow.Author.Tests.{lt-ltb, le-ltb}
+use Rattle.std.proofs.Common.{sym, ◌∙◌, arith}
+use borrow.Author.Tests.{le-ltb}
 use Rattle.windows.specs.Pairs.{pair, meet, first_meeting}
 use Rattle.windows.specs.declared.Pair.{Pair}
 use Rattle.windows.proofs.First.{least, least-zero, least-none, least-some, least-same, find-flat_map, find-filter, passing}
@@ -18,20 +18,14 @@ abbrev pub meeting_of : ℕ → (ℕ → List ℕ) → ℕ → Option Pair
 meeting_of n pages i = least (meeting_with pages i) n
 
 pub first-least : (pages : ℕ → List ℕ) (n : ℕ) → first_meeting n pages ≡ least (meeting_of n pages) n
-first-least pages n =
-    find-flat_map (meets pages) _ n (λ i. i)
-    ∙ least-same _ (meeting_of n pages) n (λ i l. find-filter (nat_lt i) (meets pages) (pair i) n (λ k. k))
+first-least pages n = grind (arith, find-flat_map, least-same, find-filter)
 
 abbrev met : ℕ → ℕ → Bool → Option Pair
 met i k b = if nat_lt i k then (if b then Some (pair i k) else None) else None
 
 -- alike rows give one answer
 pub first-same : (rows pages : ℕ → List ℕ) (n : ℕ) → ((i : ℕ) → i < n → rows i ≡ pages i) → first_meeting n rows ≡ first_meeting n pages
-first-same rows pages n h =
-    first-least rows n
-    ∙ least-same (meeting_of n rows) (meeting_of n pages) n
-    (λ i l. least-same (meeting_with rows i) (meeting_with pages i) n (λ k m. ap₂ (λ (a b : List ℕ). met i k (meet a b)) (h i l) (h k m)))
-    ∙ sym (first-least pages n)
+first-same rows pages n h = grind (arith, first-least, least-same)
 
 -- LOOP BY LOOP
 
@@ -54,19 +48,10 @@ module _ (pages : ℕ → List ℕ) (n i : ℕ) where
       let one : k + 1 ≡ suc k = omega arith in rw one at (least-none (meeting_with pages i) k (none-start k (omega arith)) (not-above k low))
 
   pub none-more : (k : ℕ) → NoneBelow k → meet (pages i) (pages k) ≡ false → NoneBelow (k + 1)
-  none-more k h e = least-none (meeting_with pages i) k h (rw e (if-none (nat_lt i k)))
-    where
-      if-none : (b : Bool) → ◌≡◌ {A = Option Pair} (if b then None else None) None
-      if-none true = refl
-      if-none false = refl
+  none-more k h e = grind (arith, least-none)
 
   pub pair-found : (k : ℕ) → NoneBefore → NoneBelow k → i < k → k < n → meet (pages i) (pages k) ≡ true → Some (pair i k) ≡ first_meeting n pages
-  pair-found k before h l m e =
-      let above : nat_lt i k ≡ true = lt-ltb i k l in
-      let here : meeting_with pages i k ≡ Some (pair i k) = rw (above, e) refl in
-      sym
-      (first-least pages n
-      ∙ least-some (meeting_of n pages) i n (pair i k) before (least-some (meeting_with pages i) k n (pair i k) h here m) (omega arith))
+  pair-found k before h l m e = grind (arith, first-least, least-some)
 
   pub before-more : (k : ℕ) → NoneBefore → NoneBelow k → k ≡ n → least (meeting_of n pages) (i + 1) ≡ None
   before-more k before h e = least-none (meeting_of n pages) i before (rw e at h)

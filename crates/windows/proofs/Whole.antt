@@ -1,6 +1,6 @@
 -- The answer, step by step.
-use Rattle.std.specs.Prelude.{if◌then◌else◌, ◌≡◌, ◌<◌, refl, ℕ, Bool, List, [], length, take, slice_index_or, Option, Some, None, nat_lt, Result, Ok, Err}
-use Rattle.std.proofs.Common.{sym, ap, ◌∙◌, arith}
+use Rattle.std.specs.Prelude.{if◌then◌else◌, ◌≡◌, refl, ℕ, Bool, List, length, Option, Some, None, nat_lt, Result, Ok, Err}
+use Rattle.std.proofs.Common.{arith}
 use Rattle.word.specs.Ram.{word_at}
 use Rattle.sysreg.specs.declared.regs.Control.{Control}
 use Rattle.cpu.specs.Check.{passes, ram_rows, first_of, number_of, number_missed}
@@ -12,7 +12,7 @@ use Rattle.windows.specs.Pages.{frames_at, faults_at}
 use Rattle.windows.specs.Pairs.{first_meeting}
 use Rattle.windows.specs.Listed.{listed}
 use Rattle.windows.specs.Windows.{Found, found_in, found_of, windows_of}
-use Rattle.windows.specs.declared.{list.Window.Window, list.WindowList.WindowList, list.Malformed.Malformed, pages.PageFault.PageFault, Pair.Pair}
+use Rattle.windows.specs.declared.{list.WindowList.WindowList, list.Malformed.Malformed, pages.PageFault.PageFault, Pair.Pair}
 use Rattle.windows.specs.declared.WindowsError.TheVariants as Error
 use Rattle.windows.proofs.Gathering.{window-listed, length-listed}
 use Rattle.windows.proofs.Pairing.{first-same}
@@ -33,8 +33,7 @@ module _ (control : Control) (level base : ℕ) (ram bytes : List ℕ) where
   pub check-missed : {A : Type 0} (r : Result A Check) (check : Check) → number_missed r ≡ first_of (ram_rows level base (length ram)) → r ≡ Err check
       → Err (Error.Check check) ≡ windows_of control level base ram bytes
   unfolding windows_of
-  check-missed r check e is =
-      missed (nat_lt 3 level) (passes base (length ram)) check (found_of control level memory (list_of bytes)) (rw is at e)
+  check-missed r check e is = grind arith
 
   -- neither check is missed
   pub check-passed : {A : Type 0} (r : Result A Check) (x : A) → number_missed r ≡ first_of (ram_rows level base (length ram)) → r ≡ Ok x
@@ -55,11 +54,4 @@ module _ (control : Control) (level base : ℕ) (ram bytes : List ℕ) where
         → EachRow (listed l) rows (frames_at control level memory (listed l)) → x ≡ first_meeting l.count (row_of l.windows rows)
         → Ok x ≡ found_of control level memory (list_of bytes)
     unfolding found_in
-    pages-clear rows x long clear each e = rw (is, clear, count) (ap Ok (e ∙ first-same _ _ l.count alike))
-      where
-        count : length (listed l) ≡ l.count
-        count = length-listed l.windows l.count (omega (arith, l.few))
-
-        alike : (i : ℕ) → i < l.count → row_of l.windows rows i ≡ frames_at control level memory (listed l) i
-        alike i h =
-            ap (λ (w : Window). take w.pages (slice_index_or rows i [])) (sym (window-listed l.windows l.count i h)) ∙ each i (rw count h)
+    pages-clear rows x long clear each e = grind (arith, first-same, length-listed, window-listed)

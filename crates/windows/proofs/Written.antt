@@ -11,12 +11,11 @@ use Rattle.windows.proofs.Encoding.{chunks}
 use Rattle.windows.proofs.RightLaws.{read-right}
 
 take-none : (n : ℕ) → take {A = ℕ} n [] ≡ []
-take-none zero = refl
-take-none (suc n) = refl
+take-none n = grind arith
 
 take-both : (m n : ℕ) (xs : List ℕ) → take (m + n) xs ≡ take m xs ++ take n (drop m xs)
 take-both zero n xs = ap (λ (k : ℕ). take k xs) (zero-add n)
-take-both (suc m) n [] = rw (suc-add m n, take-none n) refl
+take-both (suc m) n [] = grind (arith, suc-add, take-none)
 take-both (suc m) n (x ∷ xs) = rw (suc-add m n) (ap (λ (ys : List ℕ). x ∷ ys) (take-both m n xs))
 
 module _ (bytes : List ℕ) (small : (k : ℕ) → slice_index bytes k < 256) where

@@ -18,10 +18,7 @@ pub record RightList (bytes : List ℕ) : Type 0 where
   pub begun : 2 ≤ length bytes
   pub few : count_of bytes ≤ 64
   pub long : length bytes ≡ 2 + 10 * count_of bytes
-  pub starts : (i : ℕ) → i < count_of bytes → start_at bytes i % 4096 ≡ 0
-  pub some_pages : (i : ℕ) → i < count_of bytes → 1 ≤ pages_at bytes (count_of bytes) i
-  pub few_pages : (i : ℕ) → i < count_of bytes → pages_at bytes (count_of bytes) i ≤ 16
-  pub within : (i : ℕ) → i < count_of bytes → start_at bytes i + 4096 * pages_at bytes (count_of bytes) i ≤ 2 ^ 64
+  pub right : (i : ℕ) → i < count_of bytes → RightWindow (window_at bytes (count_of bytes) i)
 
 -- windows before one of a list that is as long as it has to be are right
 pub record RightBefore (bytes : List ℕ) (i : ℕ) : Type 0 where

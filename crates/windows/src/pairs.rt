@@ -12,12 +12,8 @@ use crate::pages::PhysicalPages;
 fn has(pages: &[u64], page: u64) -> bool
     ensures { result ≡ list_any (λ y. page == y) pages.now }
 {
-    let mut found = false;
     // to the end, so that several can be compared at once
-    for y in pages {
-        found |= page == *y;
-    }
-    found
+    pages.iter().fold(false, |found, y| found | (page == *y))
 }
 
 // Whether two windows have a physical page in common.
