@@ -1,5 +1,5 @@
 -- A call as eight words.
-use Rattle.std.specs.Prelude.{if◌then◌else◌, List, ℕ, ◌^◌, eqb, ltb, get_or, Bool, true, false, Result, Ok, Err}
+use Rattle.std.specs.Prelude.{if◌then◌else◌, List, ℕ, ◌^◌, eqb, ltb, get_or, Bool, true, false, Option, Some, None, Result, Ok, Err}
 use Rattle.fault.specs.First.{first}
 use Rattle.tlb.specs.Access.{kind_at}
 use Rattle.tlb.specs.declared.{access.Kind.Kind, access.NoSuchKind.NoSuchKind}
@@ -67,6 +67,15 @@ abort_call DecodedException.Unknown = DecodedCall.Unknown
 abbrev pub mark_call : ℕ → DecodedCall
 mark_call n = if eqb n 0 then DecodedCall.Known (Call.Mark false) else if eqb n 1 then DecodedCall.Known (Call.Mark true) else DecodedCall.Unknown
 
+-- whether it is EL0's view: 0 privileged, 1 EL0's
+abbrev pub view_at : ℕ → Option Bool
+view_at n = if eqb n 0 then Some false else if eqb n 1 then Some true else None
+
+unfoldable pub flip_call : Result Kind NoSuchKind → Option Bool → ℕ → DecodedCall
+flip_call (Ok k) (Some user) va = DecodedCall.Known (Call.Flip k user va)
+flip_call (Ok k) None va = DecodedCall.Unknown
+flip_call (Err e) view va = DecodedCall.Unknown
+
 abbrev pub encoding_of : ℕ → ℕ → ℕ → ℕ → ℕ → Encoding
 encoding_of op1 crn crm op2 rt = record { op1 = op1; crn = crn; crm = crm; op2 = op2; rt = rt }
 
@@ -87,4 +96,5 @@ call_of op =
     else if eqb (get_or op 0 0) 12 then abort_call (exception_of (get_or op 1 0) (get_or op 2 0) (get_or op 3 0) (get_or op 4 0))
     else if eqb (get_or op 0 0) 13 then DecodedCall.Known (Call.Census (get_or op 1 0) (get_or op 2 0))
     else if eqb (get_or op 0 0) 14 then DecodedCall.Known Call.Windows
+    else if eqb (get_or op 0 0) 15 then flip_call (kind_of (get_or op 1 0)) (view_at (get_or op 2 0)) (get_or op 3 0)
     else DecodedCall.Unknown

@@ -2,7 +2,7 @@
 ghost use Rattle.std.specs.Prelude.{◌≡◌};
 ghost use Rattle.call_words.specs.declared.op.DecodedException.TheVariants as DecodedException;
 ghost use Rattle.call_words.specs.Ops.{kind_of, in_range, data_abort_of, insn_abort_of, exception_of, exception_at};
-ghost use Rattle.call_words.specs.Ops.{key_of, translate_call, abort_call, mark_call, call_of};
+ghost use Rattle.call_words.specs.Ops.{key_of, view_at, translate_call, abort_call, mark_call, flip_call, call_of};
 
 use cpu::call::Call;
 use exception::kind::{DataAbort, Exception, InsnAbort};
@@ -132,6 +132,27 @@ fn mark_of(word: u64) -> DecodedCall
     }
 }
 
+/// Whether it is EL0's view: 0 privileged, 1 EL0's; any other word names none.
+pub fn view_of(word: u64) -> Option<bool>
+    ensures { result ≡ view_at word }
+{
+    match word {
+        0 => Some(false),
+        1 => Some(true),
+        _ => None,
+    }
+}
+
+#[tactic(auto, unfolding(crate::specs::Ops::flip_call))]
+fn flip_of(kind: u64, user: u64, va: u64) -> DecodedCall
+    ensures { result ≡ flip_call (kind_of kind) (view_at user) va }
+{
+    match (Kind::try_from(kind), view_of(user)) {
+        (Ok(kind), Some(user)) => DecodedCall::Known(Call::Flip(kind, user, va)),
+        _ => DecodedCall::Unknown,
+    }
+}
+
 // A key that no 32 bits hold is that of no register.
 pub fn key_of(word: u64) -> u32
     ensures { result ≡ key_of word }
@@ -182,6 +203,7 @@ pub fn call_of(op: &[u64; 8]) -> DecodedCall
         12 => abort_of(a, b, c, d),
         13 => DecodedCall::Known(Call::Census(a, b)),
         14 => DecodedCall::Known(Call::Windows),
+        15 => flip_of(a, b, c),
         _ => DecodedCall::Unknown,
     }
 }

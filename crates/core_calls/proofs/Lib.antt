@@ -3,3 +3,4 @@ pub mod Promised
 pub mod Census
 pub mod Windows
 pub mod Said
+pub mod Flip

@@ -18,6 +18,7 @@ use Rattle.call_words.specs.declared.op.DecodedCall.{DecodedCall}
 use Rattle.call_words.specs.declared.op.DecodedCall.TheVariants.{Known, Unknown}
 use Rattle.quick.specs.Says.{unread}
 use Rattle.core_calls.specs.Windows.{found_number, found_words, windows_in, bare_windows}
+use Rattle.core_calls.specs.Flip.{flip_number, flip_words, flip_in, bare_flip}
 use Rattle.core_calls.specs.Named.{call_number, call_value, call_reads, call_ram, call_core, call_code, call_words}
 
 -- FAITHFULNESS
@@ -93,3 +94,16 @@ pub record WindowsPromise (bytes : List ℕ) (base : ℕ) (ram : List ℕ) (c : 
   pub faithful : (list : List (Lent real machine)) → c ≡ core_after list
       → (n ≡ found_number (bare_windows (bare_after list) (ram_of base ram) bytes))
       × (words ≡ found_words (bare_windows (bare_after list) (ram_of base ram) bytes) old)
+
+-- A flip, which is lent the core shared, and RAM to change and to put back: the number n, three words, which were old, and the bytes ys.
+--   bytes       RAM ends as it began
+--   unchanged   any other number than 0 says that no word was written
+--   faithful    whatever list of calls left the core: number and words are those of the core without a cache
+pub record FlipPromise (va kind user base : ℕ) (ram : List ℕ) (c : Core) (n : ℕ) (old words ys : List ℕ) : Type 0 where
+  pub code : n ≡ flip_number (flip_in c base ram va kind user)
+  pub told : words ≡ flip_words (flip_in c base ram va kind user) old
+  pub bytes : ys ≡ ram
+  pub unchanged : 0 < n → words ≡ old
+  pub faithful : (list : List (Lent real machine)) → c ≡ core_after list
+      → (n ≡ flip_number (bare_flip (bare_after list) (ram_of base ram) va kind user))
+      × (words ≡ flip_words (bare_flip (bare_after list) (ram_of base ram) va kind user) old)

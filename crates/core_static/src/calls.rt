@@ -5,7 +5,7 @@ ghost use Rattle.call_words.specs.declared.op.DecodedCall.TheVariants as Decoded
 ghost use Rattle.call_words.specs.Ops.{key_of, kind_of, encoding_of, exception_at};
 ghost use Rattle.call_words.specs.Ops.{abort_call, mark_call, call_of, translate_call};
 ghost use Rattle.call_words.specs.Walk.{walk_code, walk_words};
-ghost use Rattle.core_calls.specs.Promise.{Promise, Setting, StepPromise, CensusPromise, WindowsPromise};
+ghost use Rattle.core_calls.specs.Promise.{Promise, Setting, StepPromise, CensusPromise, WindowsPromise, FlipPromise};
 
 use call_words::reply::Report;
 use core_calls::{inspect, memory, settings, step};
@@ -212,6 +212,26 @@ pub extern "C" fn a72_windows(
     ensures unchanged { handle.new.core ≡ handle.old.core }
 {
     inspect::windows(handle.core(), list, out, base, ram)
+}
+
+/// Which bit of a descriptor, flipped in RAM, changes how an access of a kind (1 read, 2 write, 4 fetch) ends in the
+/// regime's own view (0) or EL0's (1): 0 and, in `out`, 1, the first descriptor's address and its lowest bit, or three
+/// zeros where no bit of RAM does; 64 where kind or view names nothing, 1 or 2, and no word is written. RAM is changed
+/// while the call runs, and as it was when it returns.
+#[unsafe(no_mangle)]
+pub extern "C" fn a72_flip(
+    handle: &mut Handle,
+    va: u64,
+    kind: u64,
+    user: u64,
+    out: &mut [u64; 3],
+    base: u64,
+    ram: &mut [u8],
+) -> u64
+    ensures promise { FlipPromise va kind user base ram.old handle.old.core result out.old out.new ram.new }
+    ensures unchanged { handle.new.core ≡ handle.old.core }
+{
+    inspect::flip(handle.core(), va, kind, user, out, base, ram)
 }
 
 /// One walk of an untagged address: 0 and the leaf, or 256 plus the fault's status, and in either case how many

@@ -134,6 +134,7 @@ module _ (b : Bare) (w : WholeRegs b.control b.sys) where
   does-whole m (Call.Abort e) = record { control = w.control; sys = entered-whole b.sys _ _ _ _ _ w.sys }
   does-whole m (Call.Census first pages) = w
   does-whole m Call.Windows = w
+  does-whole m (Call.Flip kind user va) = w
 
   step-whole : (m : Ram) (x : Call) → Keeps (bare_step b m x)
   step-whole m x = go (ruling_in b m x)

@@ -18,8 +18,9 @@ use Rattle.transparency.specs.Census.{bare_counts}
 use Rattle.call_words.specs.Replies.{code_by}
 use Rattle.call_words.specs.declared.reply.Report.{Report}
 use Rattle.core_calls.specs.Named.{call_core}
-use Rattle.core_calls.specs.Promise.{FaithfulNumber, FaithfulWords, Promise, Setting, StepPromise, CensusPromise, WindowsPromise}
+use Rattle.core_calls.specs.Promise.{FaithfulNumber, FaithfulWords, Promise, Setting, StepPromise, CensusPromise, WindowsPromise, FlipPromise}
 use Rattle.core_calls.specs.Windows.{found_number, found_words, bare_windows}
+use Rattle.core_calls.specs.Flip.{flip_number, flip_words, bare_flip}
 use Rattle.call_words.specs.declared.op.DecodedCall.{DecodedCall}
 use Rattle.call_words.specs.declared.op.DecodedCall.TheVariants.{Known, Unknown}
 
@@ -117,3 +118,17 @@ windows_on_core =
 
 pub windows-on-core : windows_on_core
 windows-on-core c list m bytes base ram n old words p = p.faithful list (made-core c list m)
+
+-- and a flip is found, and told, as on the core without a cache, and leaves RAM as it was
+abbrev pub flip_on_core : Type 0
+flip_on_core =
+    (c : Core) (list : List (Lent real machine)) → Made c list
+    → (va kind user base : ℕ) (ram : List ℕ) (n : ℕ) (old words ys : List ℕ)
+    → FlipPromise va kind user base ram c n old words ys
+    → (n ≡ flip_number (bare_flip (bare_after list) (window_of base ram) va kind user))
+    × ((words ≡ flip_words (bare_flip (bare_after list) (window_of base ram) va kind user) old) × (ys ≡ ram))
+
+pub flip-on-core : flip_on_core
+flip-on-core c list m va kind user base ram n old words ys p =
+    let told = p.faithful list (made-core c list m) in
+    (told.0, (told.1, p.bytes))

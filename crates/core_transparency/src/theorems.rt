@@ -2,6 +2,7 @@
 // that a core was as after reset, and then calls changed it, each as its contract promises.
 ghost use Rattle.core_transparency.specs.OnCore.{made_is_core};
 ghost use Rattle.core_transparency.specs.OnCore.{faithful_on_core, faithful_step_on_core, counts_on_core, windows_on_core};
+ghost use Rattle.core_transparency.specs.OnCore.{flip_on_core};
 ghost use Rattle.core_transparency.specs.Counters.{hits_on_core, walks_on_core, sums_on_core};
 ghost use Rattle.core_transparency.specs.Reads.{reads_on_core, step_reads_on_core};
 ghost use Rattle.core_transparency.specs.Whole.{call_keeps_whole, made_is_whole, made_is_saved};
@@ -12,13 +13,14 @@ pub fn made_core()
 {}
 
 /// On such a core each further call is faithful: settled pages are answered as by the core without a cache, by
-/// number and by words; a census counts, and windows are found, as on that core. Rules out a call whose own fast path
-/// answers by an entry or a hint that an earlier call should have dropped.
+/// number and by words; a census counts, and windows and a flip are found, as on that core. Rules out a call whose own
+/// fast path answers by an entry or a hint that an earlier call should have dropped.
 pub fn every_call_on_core()
     ensures call { faithful_on_core }
     ensures step { faithful_step_on_core }
     ensures census { counts_on_core }
     ensures windows { windows_on_core }
+    ensures flip { flip_on_core }
 {}
 
 /// The counters by level of such a core are the number of the list's translations made at each level that an entry

@@ -167,10 +167,8 @@ first-stops va i f g write h e = grind arith
 
 pub load-fails : LoadFails
 unfolding load_end load_of verdict_of
-load-fails base ram va n (Err g) b last abort i f wide cross l =
-    ap (λ (s : Stop). Err s) (first-stops va i f g false wide (first-fails base (length ram) va n g b i f l))
-load-fails base ram va n (Ok pa) (Err g) last abort i f wide cross l =
-    ap (λ (s : Stop). Err s) (half-stops base (length ram) va n pa g false i f l)
+load-fails base ram va n (Err g) b last abort i f wide cross l = search (rules, first-stops, first-fails)
+load-fails base ram va n (Ok pa) (Err g) last abort i f wide cross l = search (rules, half-stops)
 load-fails base ram va n (Ok pa) (Ok pa2) last abort i f wide cross l =
     let (judged, met) = both-fail base (length ram) va n pa pa2 i f l in
     ap (λ (d : Verdict). (loaded_from (Split (pages base (length ram) va n pa pa2)) (got_by d (value_at base ram (Split (pages base (length ram) va n pa pa2)) n)) abort va).answer) judged
@@ -178,10 +176,8 @@ load-fails base ram va n (Ok pa) (Ok pa2) last abort i f wide cross l =
 
 pub store-fails : StoreFails
 unfolding store_end verdict_of
-store-fails base ram va n (Err g) b abort i f wide cross l =
-    ap (λ (s : Stop). Err s) (first-stops va i f g true wide (first-fails base (length ram) va n g b i f l))
-store-fails base ram va n (Ok pa) (Err g) abort i f wide cross l =
-    ap (λ (s : Stop). Err s) (half-stops base (length ram) va n pa g true i f l)
+store-fails base ram va n (Err g) b abort i f wide cross l = search (rules, first-stops, first-fails)
+store-fails base ram va n (Ok pa) (Err g) abort i f wide cross l = search (rules, half-stops)
 store-fails base ram va n (Ok pa) (Ok pa2) abort i f wide cross l =
     let (judged, met) = both-fail base (length ram) va n pa pa2 i f l in
     ap (λ (d : Verdict). (store_end_by d abort va).answer) judged ∙ ap (λ (x : Fault). Err (data_abort (wrap (va + i)) true x)) (sym met)
@@ -193,8 +189,7 @@ aborts-at base ram va n (Err g) b last abort i f wide cross l =
     let k : i < in_page va = omega arith in
     let stays : abort ≡ unwrap_or (byte_lies va (Err g) b i) abort = rw (lt-ltb i (in_page va) k) refl in
     (stays, stays)
-aborts-at base ram va n (Ok pa) (Err g) last abort i f wide cross l =
-    let e = half-aborts base (length ram) va n pa g abort i f l in (e, e)
+aborts-at base ram va n (Ok pa) (Err g) last abort i f wide cross l = search (rules, half-aborts)
 aborts-at base ram va n (Ok pa) (Ok pa2) last abort i f wide cross l =
     let judged = (both-fail base (length ram) va n pa pa2 i f l).0 in
     let lie = sym (ap (λ (x : Option ℕ). unwrap_or x abort) (both-lie base (length ram) va n pa pa2 i)) in (

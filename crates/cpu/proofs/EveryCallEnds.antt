@@ -30,7 +30,7 @@ use Rattle.cpu.specs.Check.{Row, checks_of, missed_of, is_width, known, kept}
 use Rattle.cpu.specs.Replies.{translation, loading, storing, fetching, reaching, registering}
 use Rattle.cpu.specs.Step.{load_by, store_by, store_ram_by, missed_by, run_of, ram_of, ram_after}
 use Rattle.cpu.specs.declared.call.Call.TheVariants.{Translate, DataPa, FetchPa, Load as LoadCall, Store as StoreCall, Fetch, System}
-use Rattle.cpu.specs.declared.call.Call.TheVariants.{Register as RegisterCall, Level, Mark, General, Abort, Census, Windows}
+use Rattle.cpu.specs.declared.call.Call.TheVariants.{Register as RegisterCall, Level, Mark, General, Abort, Census, Windows, Flip}
 use Rattle.word.specs.declared.ram.Width.{Width}
 use Rattle.sysreg.specs.declared.write.WriteError.TheVariants.{Undefined, NoRegister}
 use Rattle.cpu.specs.EveryCallEnds.{did, faulted, is-undefined, is-unimplemented, valued, unreached, stopped, wrote-ram, Ran, Wrote, outcome_of, writes}
@@ -200,6 +200,7 @@ module _ (c : Core) (base : ℕ) (ram : List ℕ) where
   ran (Abort x) e = only-done c _ ram
   ran (Census first pages) e = only-done c _ ram
   ran Windows e = only-done c _ ram
+  ran (Flip kind user va) e = only-done c _ ram
 
 module _ (c : Core) (base : ℕ) (ram : List ℕ) where
   pub quiet : (call : Call) → writes c call ≡ false → ram_after c base ram call ≡ ram

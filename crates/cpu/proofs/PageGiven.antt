@@ -8,7 +8,6 @@ use borrow.Author.Tests.{eqb-true, eq-eqb}
 use Rattle.std.proofs.Math.Seq.{get_or-set_same}
 use Rattle.walk.specs.Answers.{Walked}
 use Rattle.walk.proofs.TagLaws.{untagged-page, untagged-offset}
-use Rattle.sysreg.specs.Regs.{regime_of}
 use Rattle.walk.specs.declared.{regime.Bank.Bank}
 use Rattle.tlb.specs.Access.{may_hint, right_of, has_right, judged, flat_answer, user_of}
 use Rattle.tlb.specs.Answers.{Answer, Outcome}
@@ -53,15 +52,7 @@ pub data Gives (s : Bank) (privilege : Privilege) (kind : Kind) (a pa : ℕ) (t 
 module _ (s : Bank) (privilege : Privilege) (kind : Kind) where
   -- so is each address of the page
   pub gives-page : {a pa : ℕ} {t : Tlb} (b : ℕ) → a / 4096 ≡ b / 4096 → Gives s privilege kind a pa t → Gives s privilege kind b pa t
-  gives-page b same (by-its-hint m e) = by-its-hint m (rw same at e)
-  gives-page {a} {pa} {t} b same (by-its-entry m o e r p) =
-      let tags : (asking s privilege kind a).untagged / 4096 ≡ (asking s privilege kind b).untagged / 4096
-      = untagged-page s.tcr (regime_of privilege.level) a b same in
-      by-its-entry m o (rw tags at e) (rw tags at r) (rw tags at p)
-  gives-page {a} b same (by_itself m o p) =
-      let pages : (asking s privilege kind a).untagged / 4096 ≡ (asking s privilege kind b).untagged / 4096
-      = untagged-page s.tcr (regime_of privilege.level) a b same in
-      by_itself m o (rw pages at p)
+  gives-page b same g = grind (arith, untagged-page)
 
   module _ (memory : ℕ → Option ℕ) (t : Tlb) (a : ℕ) where
     abbrev x : Access

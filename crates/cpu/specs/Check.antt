@@ -7,7 +7,7 @@ use Rattle.sysreg.specs.Write.{names}
 use Rattle.system.specs.declared.decode.Encoding.{Encoding}
 use Rattle.cpu.specs.declared.{call.Call.Call, check.Check.Check}
 use Rattle.cpu.specs.declared.call.Call.TheVariants.{Translate, DataPa, FetchPa, Load, Store, Fetch, System, Register, Level, Mark, General}
-use Rattle.cpu.specs.declared.call.Call.TheVariants.{Abort, Census, Windows}
+use Rattle.cpu.specs.declared.call.Call.TheVariants.{Abort, Census, Windows, Flip}
 use Rattle.word.specs.declared.ram.Width.{Width}
 
 -- base plus length is above 2^64
@@ -46,7 +46,7 @@ abbrev pub sized_rows : ℕ → ℕ → ℕ → ℕ → List Row
 sized_rows level base len size = (nat_lt 3 level, 1) ∷ (passes base len, 2) ∷ (not (known size), 3) ∷ []
 
 -- each call's rows of the table, from top to bottom, by the present level and the window;
--- translations, load, store, fetch, every system operation, the census and the windows are handed RAM
+-- translations, load, store, fetch, every system operation, the census, the windows and a flip are handed RAM
 abbrev pub checks_of : ℕ → ℕ → ℕ → Call → List Row
 checks_of level base len (Translate kind va) = ram_rows level base len
 checks_of level base len (DataPa va) = ram_rows level base len
@@ -63,6 +63,7 @@ checks_of level base len (General number value) = (nat_lt 3 level, 1) ∷ (nat_l
 checks_of level base len (Abort e) = (nat_lt 3 level, 1) ∷ []
 checks_of level base len (Census first pages) = (nat_lt 3 level, 1) ∷ (passes base len, 2) ∷ (overlong first pages, 7) ∷ []
 checks_of level base len Windows = ram_rows level base len
+checks_of level base len (Flip kind user va) = ram_rows level base len
 
 -- the number of the first row whose condition holds, or 0
 abbrev pub first_of : List Row → ℕ

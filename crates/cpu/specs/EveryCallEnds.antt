@@ -6,7 +6,7 @@ use Rattle.cpu.specs.declared.Core.{Core}
 use Rattle.cpu.specs.declared.{call.Call.Call, call.Reply.Reply}
 use Rattle.cpu.specs.System.{op_of}
 use Rattle.cpu.specs.declared.call.Call.TheVariants.{Translate, DataPa, FetchPa, Load as LoadCall, Store as StoreCall, Fetch, System}
-use Rattle.cpu.specs.declared.call.Call.TheVariants.{Register as RegisterCall, Level, Mark, General, Abort, Census, Windows}
+use Rattle.cpu.specs.declared.call.Call.TheVariants.{Register as RegisterCall, Level, Mark, General, Abort, Census, Windows, Flip}
 use Rattle.cpu.specs.declared.call.Reply.TheVariants.{Refused, Done, Value, Faults, Fault, Stopped}
 
 -- a reply as the number of a check, or what it says: a value, a fault's address and status, done, Undefined, Unimplemented
@@ -43,7 +43,7 @@ pub data Ended (c : Core) (ram : List ℕ) : ℕ → Core → List ℕ → Outco
   is-refused : (n : ℕ) → suc n ≤ 7 → Ended c ram (suc n) c ram (number (suc n))
   has-run : (d : Core) (after : List ℕ) (o : Outcome) → Ran c ram d after o → Ended c ram 0 d after o
 
--- stores and zeroing may write; translations, loads, fetches, AT, TLBI, register writes, settings, abort entry, the census and the windows change no byte
+-- stores and zeroing may write; translations, loads, fetches, AT, TLBI, register writes, settings, abort entry, the census, the windows and a flip change no byte
 abbrev pub zeroes : SysOp → Bool
 zeroes SysOp.Zva = true
 zeroes (SysOp.At form) = false
@@ -67,3 +67,4 @@ writes c (General n v) = false
 writes c (Abort x) = false
 writes c (Census first pages) = false
 writes c Windows = false
+writes c (Flip kind user va) = false

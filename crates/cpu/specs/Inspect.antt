@@ -4,7 +4,7 @@ use Rattle.word.specs.Ram.{word_at}
 use Rattle.census.specs.Count.{census_at}
 use Rattle.cpu.specs.declared.Core.{Core}
 use Rattle.cpu.specs.declared.call.Call.{Call}
-use Rattle.cpu.specs.declared.call.Call.TheVariants.{Census, Windows}
+use Rattle.cpu.specs.declared.call.Call.TheVariants.{Census, Windows, Flip}
 use Rattle.cpu.specs.declared.inspect.Censused.{Censused}
 use Rattle.cpu.specs.Step.{refused_or, missed_by, step_of}
 
@@ -12,6 +12,7 @@ use Rattle.cpu.specs.Step.{refused_or, missed_by, step_of}
 abbrev pub looks : Call → Bool
 looks (Census first pages) = true
 looks Windows = true
+looks (Flip kind user va) = true
 looks _ = false
 
 -- A CENSUS, under the core's registers, in its level's regime

@@ -12,7 +12,7 @@ use Rattle.cpu.specs.Step.{step_of}
 use Rattle.cpu.specs.Work.{step_work}
 use Rattle.cpu.specs.declared.Core.{Core}
 use Rattle.cpu.specs.declared.call.Call.{Call}
-use Rattle.cpu.specs.declared.call.Call.TheVariants.{Translate, DataPa, FetchPa, Load, Store, Fetch as FetchCall, System, Mark, Abort, Census, Windows}
+use Rattle.cpu.specs.declared.call.Call.TheVariants.{Translate, DataPa, FetchPa, Load, Store, Fetch as FetchCall, System, Mark, Abort, Census, Windows, Flip}
 
 -- what a call reads
 abbrev pub reads : Core → ℕ → List ℕ → Call → ℕ
@@ -118,7 +118,7 @@ WorkedReads =
     ≡ (4 ∷ 0 ∷ 0 ∷ 8 ∷ 4 ∷ 3 ∷ 0 ∷ 3 ∷ [])
 
 -- Each call that may read: where a read or a fetch of the page goes, a load, a store, a fetch, a zeroing, an AT; and an AT where the page is known. An AT with
--- stage 1 off, TLBI, a census and windows read none.
+-- stage 1 off, TLBI, a census, windows and a flip read none.
 abbrev pub ReadsOfCalls : Type 0
 ReadsOfCalls =
     (reads four 0x1008 ram (DataPa 0x8040201234)
@@ -133,5 +133,6 @@ ReadsOfCalls =
     ∷ reads four 0x1008 ram tlbi
     ∷ reads four 0x1008 ram (Census 0x8040201000 1)
     ∷ reads four 0x1008 ram Windows
+    ∷ reads four 0x1008 ram (Flip Read true 0x8040201234)
     ∷ [])
-    ≡ (4 ∷ 4 ∷ 4 ∷ 4 ∷ 4 ∷ 4 ∷ 4 ∷ 4 ∷ 0 ∷ 0 ∷ 0 ∷ 0 ∷ [])
+    ≡ (4 ∷ 4 ∷ 4 ∷ 4 ∷ 4 ∷ 4 ∷ 4 ∷ 4 ∷ 0 ∷ 0 ∷ 0 ∷ 0 ∷ 0 ∷ [])

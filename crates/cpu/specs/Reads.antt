@@ -20,7 +20,7 @@ use Rattle.cpu.specs.Work.{access_work, write_work, zero_work, step_work}
 use Rattle.cpu.specs.declared.Core.{Core}
 use Rattle.cpu.specs.declared.call.Call.{Call}
 use Rattle.cpu.specs.declared.call.Call.TheVariants.{Translate, DataPa, FetchPa, Load as LoadCall, Store as StoreCall, Fetch, System}
-use Rattle.cpu.specs.declared.call.Call.TheVariants.{Register, Level, Mark, General, Abort, Census, Windows}
+use Rattle.cpu.specs.declared.call.Call.TheVariants.{Register, Level, Mark, General, Abort, Census, Windows, Flip}
 
 -- AN ACCESS
 
@@ -74,7 +74,7 @@ AtReads =
 -- A CALL
 
 -- translations, loads, stores, fetches, AT and zeroing may read; the other system operations, register writes, settings, abort entry, the
--- census and the windows do not
+-- census, the windows and a flip do not
 abbrev pub walks : SysOp → Bool
 walks (SysOp.At form) = true
 walks SysOp.Tlbi = false
@@ -98,6 +98,7 @@ reads_tables c (General n v) = false
 reads_tables c (Abort x) = false
 reads_tables c (Census first pages) = false
 reads_tables c Windows = false
+reads_tables c (Flip kind user va) = false
 
 abbrev pub OthersReadNothing : Type 0
 OthersReadNothing =

@@ -3,7 +3,7 @@ use Rattle.std.specs.Prelude.{◌≡◌, ℕ, Bool, true, false, List}
 use Rattle.cpu.specs.System.{op_of}
 use Rattle.cpu.specs.declared.call.Call.{Call}
 use Rattle.cpu.specs.declared.call.Call.TheVariants.{Translate, DataPa, FetchPa, Load as LoadCall, Store as StoreCall, Fetch, System, Register, Level}
-use Rattle.cpu.specs.declared.call.Call.TheVariants.{Mark, General, Abort, Census, Windows}
+use Rattle.cpu.specs.declared.call.Call.TheVariants.{Mark, General, Abort, Census, Windows, Flip}
 use Rattle.cpu.specs.declared.Core.{Core}
 use Rattle.cpu.specs.EveryCallEnds.{zeroes}
 use Rattle.cpu.specs.Step.{step_of}
@@ -23,6 +23,7 @@ loads (General n v) = false
 loads (Abort x) = false
 loads (Census first pages) = false
 loads Windows = false
+loads (Flip kind user va) = false
 
 abbrev pub goes_to_memory : Core → Call → Bool
 goes_to_memory c (LoadCall va size) = true
@@ -39,6 +40,7 @@ goes_to_memory c (General n v) = false
 goes_to_memory c (Abort x) = false
 goes_to_memory c (Census first pages) = false
 goes_to_memory c Windows = false
+goes_to_memory c (Flip kind user va) = false
 
 abbrev pub OnlyLoadCallsSetLast : Type 0
 OnlyLoadCallsSetLast =

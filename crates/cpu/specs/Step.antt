@@ -11,7 +11,7 @@ use Rattle.cpu.specs.System.{sys_of, sys_ram}
 use Rattle.cpu.specs.Check.{missed_of}
 use Rattle.cpu.specs.declared.{call.Call.Call, call.Reply.Reply}
 use Rattle.cpu.specs.declared.call.Call.TheVariants.{Translate, DataPa, FetchPa, Load as LoadCall, Store as StoreCall, Fetch, System, Register, Level}
-use Rattle.cpu.specs.declared.call.Call.TheVariants.{Mark, General, Abort, Census, Windows}
+use Rattle.cpu.specs.declared.call.Call.TheVariants.{Mark, General, Abort, Census, Windows, Flip}
 use Rattle.cpu.specs.declared.call.Reply.TheVariants.{Refused, Done}
 use Rattle.cpu.specs.Replies.{translation, loading, storing, fetching, reaching, registering}
 use Rattle.word.specs.declared.ram.Width.{Width}
@@ -71,6 +71,7 @@ run_of c base ram (General number value) = ends (set_reg c number value) Done
 run_of c base ram (Abort e) = ends (abort_of c e) Done
 run_of c base ram (Census first pages) = ends c Done
 run_of c base ram Windows = ends c Done
+run_of c base ram (Flip kind user va) = ends c Done
 
 -- RAM after it: stores and zeroing write, nothing else does
 unfoldable pub ram_of : Core → ℕ → List ℕ → Call → List ℕ
@@ -88,6 +89,7 @@ ram_of c base ram (General number value) = ram
 ram_of c base ram (Abort e) = ram
 ram_of c base ram (Census first pages) = ram
 ram_of c base ram Windows = ram
+ram_of c base ram (Flip kind user va) = ram
 
 -- a number changes nothing
 abbrev pub refused_or : {A : Type 0} → ℕ → (ℕ → A) → A → A

@@ -22,7 +22,7 @@ use Rattle.cpu.specs.System.{on_stored, op_of}
 use Rattle.cpu.specs.declared.Core.{Core}
 use Rattle.cpu.specs.declared.call.Call.{Call}
 use Rattle.cpu.specs.declared.call.Call.TheVariants.{Translate, DataPa, FetchPa, Load as LoadCall, Store as StoreCall, Fetch as FetchCall, System}
-use Rattle.cpu.specs.declared.call.Call.TheVariants.{Register, Level, Mark, General, Abort, Census, Windows}
+use Rattle.cpu.specs.declared.call.Call.TheVariants.{Register, Level, Mark, General, Abort, Census, Windows, Flip}
 
 -- the access of a kind at an address, as the core makes it
 abbrev asked_now : Core → (ℕ → Option ℕ) → Kind → ℕ → Access
@@ -73,7 +73,7 @@ sys_work_by Unimplemented c base ram x w = w
 unfoldable pub sys_work : Core → ℕ → List ℕ → ℕ → ℕ → ℕ → ℕ → ℕ → Work → Work
 sys_work c base ram op1 crn crm op2 rt w = sys_work_by (op_of c op1 crn crm op2) c base ram (reg_of c rt) w
 
--- A CALL. A census walks every page of its range and reports none.
+-- A CALL. A census, windows and a flip walk, and report none.
 abbrev pub load_work_by : Option Width → Core → ℕ → List ℕ → ℕ → Work → Work
 load_work_by (Some n) c base ram va w = read_work c base ram va (bytes_in n) w
 load_work_by None c base ram va w = w
@@ -97,6 +97,7 @@ run_work c base ram (General number value) w = w
 run_work c base ram (Abort e) w = w
 run_work c base ram (Census first pages) w = w
 run_work c base ram Windows w = w
+run_work c base ram (Flip kind user va) w = w
 
 -- a refused call reads nothing
 unfoldable pub step_work : Core → ℕ → List ℕ → Call → Work → Work

@@ -85,7 +85,7 @@ pub fn levels(level: u8, requested: u64) -> Result<(), Check>
     Check::Level.unless(3 < level || 3 < requested)
 }
 
-/// Translations, fetch and windows: no other check is theirs.
+/// Translations, fetch, windows and a flip: no other check is theirs.
 pub fn with_ram(level: u8, base: u64, len: u64) -> Result<(), Check>
     ensures { number_missed result ≡ first_of (ram_rows level base len) }
 {
@@ -146,7 +146,8 @@ pub fn missed(level: u8, base: u64, len: u64, call: Call) -> Result<(), Check>
         | Call::DataPa(_)
         | Call::FetchPa(_)
         | Call::Fetch(_)
-        | Call::Windows => with_ram(level, base, len),
+        | Call::Windows
+        | Call::Flip(..) => with_ram(level, base, len),
         Call::Load(_, size) | Call::Store(_, size, _) => {
             sized(level, base, len, size).and(Ok(()))
         }

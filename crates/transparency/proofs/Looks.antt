@@ -1,4 +1,4 @@
--- Calls that only look, a census and windows, after every list of calls.
+-- Calls that only look, a census, windows and a flip, after every list of calls.
 use Rattle.std.specs.Prelude.{◌≡◌, true, List, [], ◌∷◌, ◌++◌}
 use Rattle.std.proofs.Common.{ap, arith}
 use Rattle.cpu.specs.Bare.{Bare, fresh_bare, bare_of}
@@ -17,7 +17,7 @@ use Rattle.transparency.proofs.Beside.{two-cores}
 use Rattle.transparency.specs.Looks.{looking_calls, look_reply, look_skipped}
 
 pub looking-calls : looking_calls
-looking-calls first pages = grind arith
+looking-calls first pages va kind user = grind arith
 
 -- after every list, refused or not
 reply-bare : (c : Core) (m : Ram) (x : Call) → looks x ≡ true

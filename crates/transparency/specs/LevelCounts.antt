@@ -89,7 +89,7 @@ module _ (list : List (Lent real machine)) (m : Ram) (x : Call) where
   sums_call = totals_of then ≡ rust_after (made_after list m x) (totals_of (now list))
 
 -- CALLS THAT TRANSLATE NOTHING: AT, TLBI and the rest of `sys` but DC ZVA, register writes, settings, abort entries, a
--- census, windows
+-- census, windows, a flip
 abbrev pub quiet_op : SysOp → Bool
 quiet_op Op.Zva = false
 quiet_op _ = true

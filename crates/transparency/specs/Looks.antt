@@ -1,11 +1,12 @@
--- Calls that only look, a census and windows, after every list of calls: each replies what the core without a cache
--- would, and is a step that does nothing. What a census finds is said in Census.antt, what windows find where they are
--- called.
-use Rattle.std.specs.Prelude.{◌≡◌, ℕ, true, List, ◌∷◌, ◌++◌}
+-- Calls that only look, a census, windows and a flip, after every list of calls: each replies what the core without a
+-- cache would, and is a step that does nothing. What a census finds is said in Census.antt, what windows and a flip find
+-- where they are called.
+use Rattle.std.specs.Prelude.{◌≡◌, ℕ, Bool, true, List, ◌∷◌, ◌++◌}
+use Rattle.tlb.specs.declared.access.Kind.{Kind}
 use Rattle.cpu.specs.Inspect.{looks}
 use Rattle.cpu.specs.Step.{step_of}
 use Rattle.cpu.specs.declared.call.Call.{Call}
-use Rattle.cpu.specs.declared.call.Call.TheVariants.{Census, Windows}
+use Rattle.cpu.specs.declared.call.Call.TheVariants.{Census, Windows, Flip}
 use Rattle.history.specs.Calls.{Lent}
 use Rattle.history.specs.Instance.{Ram, real}
 use Rattle.transparency.specs.Replies.{bare_reply}
@@ -14,7 +15,9 @@ use Rattle.transparency.specs.Beside.{core_after, bare_after}
 
 -- which they are
 abbrev pub looking_calls : Type 0
-looking_calls = (first pages : ℕ) → (looks (Census first pages) ≡ true) × (looks Windows ≡ true)
+looking_calls =
+    (first pages va : ℕ) (kind : Kind) (user : Bool)
+    → (looks (Census first pages) ≡ true) × ((looks Windows ≡ true) × (looks (Flip kind user va) ≡ true))
 
 -- after every list, refused or not
 abbrev pub look_reply : Type 0

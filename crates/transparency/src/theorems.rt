@@ -133,8 +133,8 @@ pub fn parts_kept()
     ensures register { register_leaves }
 {}
 
-/// A call that only looks, a census or windows, replies what the core without a cache would, and a list leaves what it
-/// leaves without it. Rules out one that fills the cache, or counts as a walk.
+/// A call that only looks, a census, windows or a flip, replies what the core without a cache would, and a list leaves
+/// what it leaves without it. Rules out one that fills the cache, or counts as a walk.
 pub fn every_look()
     ensures which { looking_calls }
     ensures reply { look_reply }

@@ -5,13 +5,13 @@ use Rattle.walk.specs.Table.{range_of, params_of, table_next, leaf_permissions, 
 use Rattle.walk.specs.Table.{walk_range, table_walk}
 use Rattle.walk.specs.Walk.{walk_of}
 use Rattle.walk.specs.Fetches.{fetches_of, fetches_range, fetches_from}
-use Rattle.call_words.specs.Ops.{data_abort_of, call_exception_of, exception_of, translate_call, call_of}
+use Rattle.call_words.specs.Ops.{data_abort_of, call_exception_of, exception_of, translate_call, flip_call, call_of}
 use Rattle.call_words.specs.Replies.{words_by}
 use Rattle.call_words.specs.Walk.{walk_code, walk_words}
 use Rattle.call_words.proofs.theorems.codes_of_the_boundary.Goals as goal
 
 pub returns-clause-calls : goal.returns-clause-calls
-unfolding call_of translate_call exception_of call_exception_of data_abort_of
+unfolding call_of translate_call flip_call exception_of call_exception_of data_abort_of
 returns-clause-calls _ a b c d e rest = record {
   translate_read = refl;
   translate_write = refl;
@@ -32,10 +32,15 @@ returns-clause-calls _ a b c d e rest = record {
   abort = refl;
   census = refl;
   windows = refl;
+  flip_read = refl;
+  flip_write = refl;
+  flip_fetch = refl;
   code_0 = refl;
-  code_15 = refl;
+  code_16 = refl;
   kind_0 = refl;
   kind_3 = refl;
+  flip_kind_3 = refl;
+  flip_view_2 = refl;
   mark_2 = refl;
   exception_8 = refl;
 }
