@@ -161,7 +161,7 @@ uint64_t a72_word(a72_core *core, size_t place);
 #define A72_CHECK_LIST 9   /* the bytes are no list of windows */
 #define A72_PAGE_FAULTS 10 /* a page of a list of windows faults: the one number from 1 to 66 that writes */
 #define A72_LAST_CHECK 63  /* 8, and 11 to 63, are kept for checks to come */
-#define A72_NAMES_NOTHING 64 /* a kind of access, a mark, a regime, an exception or an operation's code is none */
+#define A72_NAMES_NOTHING 64 /* a kind, a mark, a user, a regime, an exception or an operation's code is none */
 #define A72_UNDEFINED 65
 #define A72_UNIMPLEMENTED 66
 #define A72_FAULT 256 /* plus the status: eight bits, as DFSC, IFSC and PAR_EL1.FST have it */
@@ -380,6 +380,22 @@ uint64_t a72_census(a72_core *core, uint64_t first, uint64_t pages, uint64_t cou
 uint64_t a72_windows(a72_core *core, const uint8_t *list, size_t list_len, uint64_t out[3], uint64_t base,
                      const uint8_t *ram, size_t len);
 
+/* Which bit of RAM changes a translation now, as a memory cell that went bad would. The translation meant is the answer
+ * to an access of this kind (A72_READ ..) at `va` with nothing cached, in the regime of the present level: the physical
+ * address, or the status of a fault. `user` is 0 for the rights of the regime's own level, 1 for EL0's; the regimes of
+ * EL2 and EL3 have no EL0, and there both are one. The mark (a72_mark) does not count, and the cache is not asked. With
+ * stage 1 alone what is found is one for every kind and `user`, though the answers are not.
+ *   A72_DONE: `out` is 1, the physical address of a descriptor, and a bit of its little-endian word, 0 to 63: the
+ *     first descriptor in the order of the walk, and in it the lowest bit, such that the answer is another with this
+ *     one bit the other way. Each read of the word sees that, also where one table is read at two levels. 0, 0, 0 where
+ *     no single bit anywhere in RAM changes the answer: with stage 1 off, or of a zero descriptor at level 0, say.
+ *   A72_CHECK_LEVEL, A72_CHECK_WINDOW; A72_NAMES_NOTHING, of a kind or a `user` that is none: `out` stays.
+ * The cell goes bad by `ram[out[1] - base + out[2] / 8] ^= 1 << out[2] % 8;`, of which the cache learns by a TLBI.
+ * Neither core nor RAM has changed when the call returns. But `ram` is not const: while the call runs it turns bits the
+ * other way and back. So nobody else may read the window meanwhile, and it lies in memory that may be written. */
+uint64_t a72_flip(a72_core *core, uint64_t va, uint64_t kind, uint64_t user, uint64_t out[3], uint64_t base,
+                  uint8_t *ram, size_t len);
+
 /* One walk of the tables without a core, for those who keep a cache of their own. `registers`: SCTLR, TCR and
  * TTBR0 of the regime, TTBR1_EL1, SCR_EL3, HCR_EL2. `regime`: 1 EL1 and EL0, 2 EL2, 3 EL3. `va` has no tag.
  * `leaf`: output address, descriptor, permissions (as in an entry), level, 1 where it holds for every ASID, and how
@@ -407,6 +423,7 @@ uint64_t a72_step(const uint64_t op[8], a72_core *core, uint64_t base, uint8_t *
 #define A72_OP_ABORT 12    /* the four words of an exception */
 #define A72_OP_CENSUS 13   /* first address, pages: whether it is done; the counts are a72_census's */
 #define A72_OP_WINDOWS 14  /* none: whether it misses a check; the list is a72_windows's, and what is found */
+#define A72_OP_FLIP 15     /* kind, user, address: whether it misses a check; what is found is a72_flip's */
 
 /* The five words of an answer: its code and what is said beside it, all else 0; the fifth has the descriptors read, as
  * an a72_answer has them, and 0 where the operation is refused. */

@@ -1,6 +1,6 @@
 #!/bin/sh
 # The C interface is one wherever it is written: the places of a saved core's words, the memory of a core, the numbers that the functions give, the counts of
-# a census, the most windows of a list and their most pages, the fields of an answer, the keys of the registers, the system operations, and each function's parameters. Compares the library (crates/), include/a72.h, bindings/rust/src and bindings/rust-archive/src, line by line;
+# a census, the most windows of a list and their most pages, the codes of the operations, the fields of an answer, the keys of the registers, the system operations, and each function's parameters. Compares the library (crates/), include/a72.h, bindings/rust/src and bindings/rust-archive/src, line by line;
 # of keys and operations also tests/names.txt, which tests/tool.sh holds the tool to. Wants nothing.
 # Its last line is 'N lines are one in all tables'; where two differ it names both and the place, and ends with 1.
 set -eu
@@ -81,6 +81,19 @@ counts=$(sed -n 's/^COUNTS //p' "$work/$header")
 awk "$constants" crates/windows/src/list.rt | sed 's/^MOST_PAGES/MOST_WINDOW_PAGES/' | table crates/windows/src/list.rt
 awk '/^#define A72_MOST_WINDOW/ { sub("A72_", "", $2); print $2, $3 }' $header | table $header
 one list crates/windows/src/list.rt $header
+
+# The codes of the operations: NAME NUMBER, by the call that a code is of, or by the function that makes it.
+awk '/^pub fn call_of/ { on = 1 } /^}/ { on = 0 }
+    on && /^        [0-9]+ => / { code = $1 }
+    on && code && !/ let / && match($0, /[a-z]+_of\(|[^d]Call::[A-Za-z]+/) {
+        name = substr($0, RSTART, RLENGTH)
+        gsub(/.*::|_of\(/, "", name)
+        if (match(name, /[a-z][A-Z]/)) name = substr(name, 1, RSTART) "_" substr(name, RSTART + 1)
+        print toupper(name), code
+        code = 0
+    }' crates/call_words/src/op.rt | table crates/call_words/src/op.rt
+awk '/^#define A72_OP_/ { sub("A72_OP_", "", $2); print $2, $3 }' $header | table op/a72.h
+one operation crates/call_words/src/op.rt op/a72.h
 
 # The fields of an answer, in their order: NAME TYPE.
 awk '/^pub struct Report / { on = 1; next } /^}/ { on = 0 } on && /^    pub / { gsub(/[:,]/, ""); print $2, $3 }' crates/call_words/src/reply.rt |

@@ -1,5 +1,5 @@
 /* Each function and each reader of include/a72.h, against each other: what was set is read, what was done is seen;
- * tests/windows.c has a72_windows. tests/c.sh builds and runs it. */
+ * tests/windows.c has a72_windows, tests/flip.c a72_flip. tests/c.sh builds and runs it. */
 #include "readings.h"
 
 #define VA (BASE + 0x40120)
@@ -307,7 +307,7 @@ static void steps(void) {
     const uint64_t past[8] = {A72_OP_CENSUS, UINT64_MAX, 2, 0, 0, 0, 0, 0};
     const uint64_t looks[8] = {A72_OP_WINDOWS, 0, 0, 0, 0, 0, 0, 0};
     const uint64_t svc[8] = {A72_OP_ABORT, A72_EXCEPTION_SVC, 5, 0, 0, 0, 0, 0};
-    const uint64_t none[8] = {A72_OP_WINDOWS + 1, 0, 0, 0, 0, 0, 0, 0};
+    const uint64_t none[8] = {A72_OP_FLIP + 1, 0, 0, 0, 0, 0, 0, 0};
     const uint64_t at_s1e1r[8] = {A72_OP_SYSTEM, A72_AT_S1E1R, 1, 0, 0};
     uint64_t ans[5] = {7, 7, 7, 7, 7};
     a72_answer all;

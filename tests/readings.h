@@ -1,5 +1,5 @@
-/* What tests/readers.c and tests/windows.c share: RAM with tables, a core that uses them, and how many readings were as
- * they must be. */
+/* What tests/readers.c, tests/windows.c and tests/flip.c share: RAM with tables, a core that uses them, and how many
+ * readings were as they must be. */
 #include "a72.h"
 
 #include <stdio.h>

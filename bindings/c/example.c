@@ -1,6 +1,6 @@
 /* A core in C: tables that map pages to themselves, a load, a store, a fault that the guest takes, a TLBI, a census of the
- * pages, which of a list of windows share one, what the cache counted at each level, and of each access how many
- * descriptors its walks read; then a number of cycles as sample frames. */
+ * pages, which of a list of windows share one, which bit of RAM changes a translation, what the cache counted at each
+ * level, and of each access how many descriptors its walks read; then a number of cycles as sample frames. */
 #include "a72.h"
 
 #include <inttypes.h>
@@ -17,8 +17,8 @@
 #define PAGE 0x403
 #define READ_ONLY 0x483
 
-static a72_memory memory;
-static a72_core *core; /* in it */
+static a72_memory memory, other;
+static a72_core *core; /* in the first */
 static uint8_t ram[LEN];
 
 /* Another agent's write to RAM, little-endian. */
@@ -122,6 +122,28 @@ static void windows(unsigned count, const uint64_t starts[], const uint64_t page
         printf("no two of %u windows share a physical page\n", count);
 }
 
+/* Which bit of RAM, in a cell that went bad, changes how `va` is read, and to what: on a copy of the core, with nothing
+ * cached. */
+static void bad_cell(uint64_t va, uint64_t user) {
+    uint64_t out[3];
+    uint64_t number = a72_flip(core, va, A72_READ, user, out, BASE, ram, LEN);
+    if (number != A72_DONE) {
+        printf("refused, number %" PRIu64 "\n", number);
+    } else if (out[0] == 0) {
+        printf("no single bit of RAM changes how 0x%" PRIx64 " is read\n", va);
+    } else {
+        a72_core *copy = a72_copy(&other, core);
+        a72_answer answer = {va, 0};
+        uint8_t *cell = &ram[out[1] - BASE + out[2] / 8];
+        printf("bit %" PRIu64 " of the descriptor at 0x%" PRIx64 " changes it\n", out[2], out[1]);
+        a72_system(copy, A72_TLBI_VMALLE1, 31, &answer, BASE, ram, LEN);
+        *cell ^= (uint8_t)(1 << out[2] % 8);
+        number = a72_translate(copy, va, A72_READ, &answer, BASE, ram, LEN);
+        say("  translate, bit flipped", number, answer);
+        *cell ^= (uint8_t)(1 << out[2] % 8);
+    }
+}
+
 /* A number of cycles as sample frames, at both rates. */
 static void frames(uint64_t cycles) {
     uint64_t cycles_left, parts_left;
@@ -174,6 +196,8 @@ int main(void) {
     windows(2, starts, pages);
     windows(3, starts, pages); /* the page that moved lies in two */
     windows(4, starts, pages);
+    bad_cell(va, 0);
+    bad_cell(UINT64_C(1) << 39, 0); /* in no table's range */
     show(va);
     frames(1500034014);
     return 0;

@@ -57,7 +57,7 @@ impl Debug for Core {
 
 /// By a number that the library has just given.
 #[cold]
-fn stop(number: u64, access: Access, address: u64) -> Stop {
+pub(crate) fn stop(number: u64, access: Access, address: u64) -> Stop {
     Stop::from_number(number, access, address).expect("a number that stops an operation")
 }
 

@@ -1,6 +1,7 @@
 //! The core of `bindings/rust` over the proved static library `liba72abi.a`, by the functions of `include/a72.h`: the
-//! same types and methods, but for `walk`, and `Memory` with its three methods. What is at hand without RAM is always
-//! `None`, and a [`Core`] is not `Sync`. What runs here is the code that the Rattle compiler made.
+//! same types and methods, but for `walk`, `fresh_answer`, `fresh_answer_with`, and `Memory` with what takes one.
+//! What is at hand without RAM is always `None`, and a [`Core`] is not `Sync`. What runs here is the code that the
+//! Rattle compiler made.
 //!
 //! # Example
 //!
@@ -19,6 +20,7 @@
 #![warn(missing_docs)]
 mod core;
 mod edit;
+mod flip;
 mod frames;
 // The oracle has `held` and `library` too, and uses all of them.
 mod held;
@@ -34,7 +36,8 @@ pub use crate::edit::Edit;
 pub use crate::frames::Rate;
 pub use plain::{count, number, place, registers};
 pub use plain::{
-    Access, Broadcast, Census, Check, Counters, Entry, Exception, Fault, FetchHint, Flags, Frames, Hint,
-    Level, LevelCounters, Malformed, PageFault, Ram, Report, Rights, Status, Stop, SystemOperation, Width,
-    WindowList, WindowsError, MOST_PAGES, MOST_WINDOWS, MOST_WINDOW_PAGES, WORDS,
+    Access, Broadcast, Census, Check, Counters, Entry, Exception, Fault, FetchHint, Flags, FlippedBit,
+    Frames, Hint, Level, LevelCounters, Malformed, PageFault, Ram, Report, Rights, Status, Stop,
+    SystemOperation, View, Width, WindowList, WindowsError, MOST_PAGES, MOST_WINDOWS, MOST_WINDOW_PAGES,
+    WORDS,
 };

@@ -109,6 +109,16 @@ extern "C" {
         ram: *const u8,
         len: usize,
     ) -> u64;
+    pub fn a72_flip(
+        core: *mut Handle,
+        va: u64,
+        kind: u64,
+        user: u64,
+        out: *mut [u64; 3],
+        base: u64,
+        ram: *mut u8,
+        len: usize,
+    ) -> u64;
     pub fn a72_walk(
         registers: *const [u64; 6],
         regime: u64,

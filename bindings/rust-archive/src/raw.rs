@@ -126,6 +126,14 @@ pub fn windows(core: &Held, list: &[u8], base: u64, ram: &[u8]) -> (u64, [u64; 3
     (n, out)
 }
 
+/// What is found, zeros where nothing is written.
+pub fn flip(core: &Held, va: u64, kind: u64, user: u64, base: u64, ram: &mut [u8]) -> (u64, [u64; 3]) {
+    let (mut out, at, len) = ([0; 3], ram.as_mut_ptr(), ram.len());
+    // Sound: a core, a slice borrowed exclusively with its own length, and a local array.
+    let n = unsafe { library::a72_flip(core.handle(), va, kind, user, &mut out, base, at, len) };
+    (n, out)
+}
+
 #[inline]
 pub fn register(core: &mut Held, key: u64, value: u64) -> u64 {
     // Sound: a core.
@@ -308,6 +316,9 @@ mod tests {
             translate(&mut core, 0, 3, 0, &[]),
             (NAMES_NOTHING, Answer::default())
         );
+        for (kind, user) in [(3, 0), (1, 2)] {
+            assert_eq!(flip(&core, 0, kind, user, 0, &mut []), (NAMES_NOTHING, [0; 3]));
+        }
         assert_eq!(mark(&mut core, 2), NAMES_NOTHING);
         assert_eq!(receive(&mut core, 0, 0), NAMES_NOTHING);
         assert_eq!(receive(&mut core, 3, 0x1_0000), NAMES_NOTHING);

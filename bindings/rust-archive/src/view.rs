@@ -144,6 +144,12 @@ impl Core {
         (key != u64::MAX).then_some(Hint { key, pa })
     }
 
+    /// The physical page of the data hint in a slot, if it is of this key.
+    pub fn hint_page(&self, slot: usize, key: u64) -> Option<u64> {
+        let hint = self.hint(slot)?;
+        (hint.key == key).then_some(hint.pa)
+    }
+
     /// The fetch hint, if there is one.
     pub fn fetch_hint(&self) -> Option<FetchHint> {
         let [present, page, level, pa] = raw::get_fetch_hint(&self.held);

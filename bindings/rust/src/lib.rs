@@ -1,6 +1,6 @@
 //! Stage 1 address translation of the Cortex-A72: the VMSAv8-64 table walk, its cache (TLB), TLBI, AT, loads, stores
-//! and fetches over one or two pages, exception entry, as pimu does them; a census of how pages are mapped, and which
-//! windows of pages have one in common.
+//! and fetches over one or two pages, exception entry, as pimu does them; a census of how pages are mapped, which
+//! windows of pages have one in common, and the bit of RAM whose flip changes a translation.
 //!
 //! Its module `stage1`, which is for no caller, is the text of crates in Rattle, Rust with contracts, in which every
 //! function is proved to meet its contract; the contracts are taken away. The rest of this crate gives it types and
@@ -82,6 +82,7 @@ mod core;
 pub mod count;
 #[doc = include_str!("../EMBEDDING.md")]
 pub mod embedding {}
+mod flip;
 mod memory;
 pub mod number;
 mod operation;
@@ -104,9 +105,10 @@ pub use boxed::Edit;
 pub use census::{Census, Rights};
 pub use count::MOST_PAGES;
 pub use memory::Memory;
-pub use operation::{Access, Exception, Level, Status, Width};
+pub use operation::{Access, Exception, Level, Status, View, Width};
 pub use place::WORDS;
 pub use ram::Ram;
+pub use stage1::flip::FlippedBit;
 pub use stage1::frames::{Frames, Rate};
 pub use system_operation::SystemOperation;
 pub use view::{Broadcast, Counters, Entry, FetchHint, Flags, Hint, LevelCounters};

@@ -42,6 +42,15 @@ pub enum Access {
     Fetch = 4,
 }
 
+/// Whose rights judge an access. In the regimes of EL2 and EL3, which have no EL0, both are those of the level itself.
+#[derive(Clone, Copy, Debug, PartialEq, Eq)]
+pub enum View {
+    /// Those of the regime's own level.
+    Privileged = 0,
+    /// Those of EL0.
+    User = 1,
+}
+
 /// The size of a load or store.
 #[derive(Clone, Copy, Debug, PartialEq, Eq)]
 pub enum Width {

@@ -1,4 +1,5 @@
 //! The window of RAM that a call is lent.
+use crate::stage1::flip::FlippedBit;
 
 /// A window of RAM: the physical address of its first byte, and its bytes. All that lies outside it gives an external
 /// abort. A window that passes 2^64 is refused ([`crate::Check::Window`]).
@@ -49,6 +50,15 @@ impl<'a> Ram<'a> {
                 true
             }
             None => false,
+        }
+    }
+
+    /// Turn a bit the other way, as a cell of memory that went bad does; whether its word was inside, and the bit below
+    /// 64. The core's cache does not see it, as with [`Self::write_u64`].
+    pub fn flip(&mut self, cell: FlippedBit) -> bool {
+        match self.read_u64(cell.pa) {
+            Some(word) if cell.bit < 64 => self.write_u64(cell.pa, word ^ 1 << cell.bit),
+            _ => false,
         }
     }
 }

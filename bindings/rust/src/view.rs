@@ -308,6 +308,14 @@ impl Core {
         (key != u64::MAX).then_some(Hint { key, pa })
     }
 
+    /// The physical page of the data hint in a slot, if it is of this key: one comparison, where the key is known to be a
+    /// hint's.
+    #[inline]
+    pub fn hint_page(&self, slot: usize, key: u64) -> Option<u64> {
+        let hint = self.core.tlb.hints.get(slot)?;
+        (hint.key == key && key != u64::MAX).then_some(hint.pa)
+    }
+
     /// The fetch hint, if there is one.
     #[inline]
     pub fn fetch_hint(&self) -> Option<FetchHint> {

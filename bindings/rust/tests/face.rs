@@ -2,8 +2,8 @@
 mod common;
 
 use a72::{
-    Access, Broadcast, Core, Flags, Level, Mapping, Memory, Ram, Rights, Status, Stop, SystemOperation, Walk,
-    Width, registers,
+    Access, Broadcast, Check, Core, Flags, FlippedBit, Level, Mapping, Memory, Ram, Rights, Status, Stop,
+    SystemOperation, View, Walk, Width, registers,
 };
 use common::{BASE, bytes, core};
 
@@ -323,4 +323,44 @@ fn what_is_at_hand_reads_nothing() {
     assert_eq!(core.report().reads, 3);
     assert_eq!(core.fetch_at_hand(0x1008), Some(Ok(BASE + 0x8008)));
     assert_eq!(core.report().reads, 0);
+}
+
+#[test]
+fn answers_with_nothing_cached() {
+    let mut bytes = bytes();
+    let mut ram = Ram::new(BASE, &mut bytes);
+    let (mut used, unused) = (core(), core());
+    let page = BASE + 0x3008;
+    used.translate(&ram, 0x1000, Access::Read).unwrap();
+    ram.write_u64(page, (BASE + 0xB000) | 0x443); // at EL0 too
+    for view in [View::Privileged, View::User] {
+        for access in [Access::Read, Access::Write, Access::Fetch] {
+            let fresh = |ram: &Ram, va| used.fresh_answer(ram, va, access, view);
+            for va in (0..6).map(|page| page << 12 | 0x123) {
+                let mut other = unused.clone();
+                other.set_level(u64::from(view == View::Privileged)).unwrap();
+                assert_eq!(fresh(&ram, va), other.translate(&ram, va, access));
+            }
+            for (pa, bit) in (0..65)
+                .map(|bit| (page, bit))
+                .chain([(BASE - 1, 0), (BASE + 0xF_FFF9, 0)])
+            {
+                let cell = FlippedBit { pa, bit };
+                let before = ram.bytes.to_vec();
+                let found = used.fresh_answer_with(&mut ram, 0x1123, access, view, cell);
+                assert_eq!(*ram.bytes, before[..]);
+                let turned = ram.flip(cell);
+                assert_eq!(found, fresh(&ram, 0x1123));
+                assert_eq!(turned && ram.flip(cell), pa == page && bit < 64);
+            }
+        }
+    }
+    let mut none = Ram::new(u64::MAX, &mut ram.bytes[..2]);
+    let refused = Err(Stop::Refused(Check::Window));
+    assert_eq!(used.fresh_answer(&none, 0, Access::Read, View::User), refused);
+    let cell = FlippedBit { pa: 0, bit: 0 };
+    assert_eq!(
+        used.fresh_answer_with(&mut none, 0, Access::Read, View::User, cell),
+        refused
+    );
 }

@@ -1,10 +1,13 @@
 //! Windows: the first two that have a physical page in common, the first page that faults, and what is no list.
+#[path = "common/chance.rs"]
+mod chance;
 mod common;
 
 use a72::{
     Access, Check, Core, Level, Malformed, PageFault, Ram, Status, Stop, SystemOperation, WindowList,
     WindowsError, place, registers,
 };
+use chance::chance;
 use common::{BASE, bytes, core};
 
 type Found = Result<Option<(usize, usize)>, WindowsError>;
@@ -251,17 +254,6 @@ fn by_translations(core: &mut Core, ram: &Ram, windows: &[(u64, u64)]) -> Found 
     let meet = |i: usize, k: usize| all[i].iter().any(|frame| all[k].contains(frame));
     let pairs = (0..all.len()).flat_map(|i| (i + 1..all.len()).map(move |k| (i, k)));
     Ok(pairs.into_iter().find(|(i, k)| meet(*i, *k)))
-}
-
-/// Numbers by chance, each below one that is asked for: SplitMix64.
-fn chance() -> impl FnMut(u64) -> u64 {
-    let mut word = 0u64;
-    move |n| {
-        word = word.wrapping_add(0x9E37_79B9_7F4A_7C15);
-        let x = (word ^ word >> 30).wrapping_mul(0xBF58_476D_1CE4_E5B9);
-        let x = (x ^ x >> 27).wrapping_mul(0x94D0_49BB_1331_11EB);
-        (x ^ x >> 31) % n
-    }
 }
 
 /// Whether bytes are a list's.

@@ -27,6 +27,7 @@ pub mod core_parts;
 pub mod cpu;
 pub mod exception;
 pub mod fault;
+pub mod flip;
 pub mod frames;
 pub mod quick;
 pub mod saved;

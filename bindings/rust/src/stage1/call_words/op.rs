@@ -118,6 +118,24 @@ fn mark_of(word: u64) -> DecodedCall {
     }
 }
 
+/// Whether it is EL0's view: 0 privileged, 1 EL0's; any other word names none.
+#[inline]
+pub fn view_of(word: u64) -> Option<bool> {
+    match word {
+        0 => Some(false),
+        1 => Some(true),
+        _ => None,
+    }
+}
+
+#[inline]
+fn flip_of(kind: u64, user: u64, va: u64) -> DecodedCall {
+    match (Kind::try_from(kind), view_of(user)) {
+        (Ok(kind), Some(user)) => DecodedCall::Known(Call::Flip(kind, user, va)),
+        _ => DecodedCall::Unknown,
+    }
+}
+
 /// A key that no 32 bits hold is that of no register.
 #[inline]
 pub fn key_of(word: u64) -> u32 {
@@ -164,6 +182,7 @@ pub fn call_of(op: &[u64; 8]) -> DecodedCall {
         12 => abort_of(a, b, c, d),
         13 => DecodedCall::Known(Call::Census(a, b)),
         14 => DecodedCall::Known(Call::Windows),
+        15 => flip_of(a, b, c),
         _ => DecodedCall::Unknown,
     }
 }

@@ -28,6 +28,8 @@ pub enum Call {
     Census(u64, u64),
     /// the list of windows stands beside the call, what is found beside the reply
     Windows,
+    /// kind, whether for EL0's view, and address; what is found stands beside the reply
+    Flip(Kind, bool, u64),
 }
 
 /// What a call answers.

@@ -72,7 +72,7 @@ pub fn levels(level: u8, requested: u64) -> Result<(), Check> {
     Check::Level.unless(3 < level || 3 < requested)
 }
 
-/// Translations, fetch and windows: no other check is theirs.
+/// Translations, fetch, windows and a flip: no other check is theirs.
 #[inline]
 pub fn with_ram(level: u8, base: u64, len: u64) -> Result<(), Check> {
     any(level)?;
@@ -118,9 +118,12 @@ pub fn census(level: u8, base: u64, len: u64, first: u64, pages: u64) -> Result<
 #[inline]
 pub fn missed(level: u8, base: u64, len: u64, call: Call) -> Result<(), Check> {
     match call {
-        Call::Translate(_, _) | Call::DataPa(_) | Call::FetchPa(_) | Call::Fetch(_) | Call::Windows => {
-            with_ram(level, base, len)
-        }
+        Call::Translate(_, _)
+        | Call::DataPa(_)
+        | Call::FetchPa(_)
+        | Call::Fetch(_)
+        | Call::Windows
+        | Call::Flip(..) => with_ram(level, base, len),
         Call::Load(_, size) | Call::Store(_, size, _) => sized(level, base, len, size).and(Ok(())),
         Call::System(e) => system(level, base, len, e),
         Call::Register(key, _) => register(level, key),

@@ -42,7 +42,7 @@ impl Core {
                 self.take_sync(e);
                 Reply::Done
             }
-            Call::Census(_, _) | Call::Windows => Reply::Done,
+            Call::Census(_, _) | Call::Windows | Call::Flip(..) => Reply::Done,
         }
     }
 

@@ -2,7 +2,7 @@
 //! The status of a fault, as the walk, the permission check or memory gives it. A second stage will add to it.
 
 /// A fault; `fsc` is its `DFSC` or `IFSC`.
-#[derive(Clone, Copy, Debug, PartialEq, Eq)]
+#[derive(Clone, Copy, PartialEq, Eq, Debug)]
 pub struct Fault {
     pub fsc: u8,
 }

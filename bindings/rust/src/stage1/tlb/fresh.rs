@@ -8,10 +8,10 @@ use crate::stage1::tlb::entry::Entry;
 use crate::stage1::walk::fresh::Fresh;
 use crate::stage1::walk::regime::Bank;
 
-/// The answer to an access at `va` with nothing cached, in the regime whose registers are `s`, over the RAM that starts
-/// at `base`: the physical address, or the fault of the walk or of the permission check. It is judged by EL0's rights or
-/// by the regime's own, whatever the level.
-#[inline]
+/// The answer to an access at `va` with nothing cached, in the regime whose registers are `s`, over the RAM that
+/// starts at `base`: the physical address, or the fault of the walk or of the permission check. It is judged by EL0's
+/// rights or by the regime's own, whatever the level.
+#[inline(always)]
 pub fn fresh_answer(
     s: Bank,
     regime: Regime,

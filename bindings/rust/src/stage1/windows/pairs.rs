@@ -8,12 +8,8 @@ use crate::stage1::windows::pages::PhysicalPages;
 /// Whether a page is among these.
 #[inline]
 fn has(pages: &[u64], page: u64) -> bool {
-    let mut found = false;
     // to the end, so that several can be compared at once
-    for y in pages {
-        found |= page == *y;
-    }
-    found
+    pages.iter().fold(false, |found, y| found | (page == *y))
 }
 
 /// Whether two windows have a physical page in common.
