@@ -43,9 +43,20 @@ for way in '' write fetch 'read 0' 'read 2' 'fetch 3'; do
     # shellcheck disable=SC2086
     for va in 100234 104000 1100000 ffffffffffff0000; do same walk tests/instrument.trace $va $way; done
 done
+for words in '' 'write user' 'fetch privileged 0' 'read user 2' 'read user 3'; do
+    # shellcheck disable=SC2086
+    for va in 100234 101000 c0000000 800000 8000000000 ffffff8020000000; do same flip tests/regimes.trace $va $words; done
+done
+printf 'window 40000000 1000\nreg tcr_el1 800010\nreg ttbr0_el1 40000000\nreg sctlr_el1 1\npoke 40000008 1\nlevel 1\nflip 1 0 0\nflip 2 1 8000000000\n' >"$work/trace"
+for va in 0 8000000000 10000000000; do same flip "$work/trace" $va; done
+same run "$work/trace"
+echo 'reg ttbr0_el1 50000000' >>"$work/trace"
+same flip "$work/trace" 0
 for t in tests/*.trace; do
     same walk "$t" 100234
     same walk "$t" 0 read 2
+    same flip "$t" 100234
+    same flip "$t" 0 write user 2
     same audit "$t" --all
     MORE=4 same counters "$t"
     MORE=3 same reads "$t" 2
@@ -93,6 +104,7 @@ printf 'level 1\nldd 0\n' >"$work/a \"trace\""
 refused 1 "{\"place\":\"$work/a \\\"trace\\\"\",\"line\":2,\"column\":1,\"reason\":\"no line of a trace has this name (the nearest is ld)\"}" run --json "$work/a \"trace\""
 refused 1 '{"place":"none","reason":"No such file or directory"}' audit none --json
 refused 1 '{"place":"--image","reason":"No such file or directory"}' run tests/page.trace --image none@0 --json
+refused 1 '{"reason":"the view is user or privileged"}' flip tests/page.trace 0 read 1 --json
 refused 1 '{"reason":"LEVEL: 0, 1, 2 or 3"}' walk tests/page.trace 0 read 4 --json
 refused 1 '{"reason":"TOTAL: not a decimal number of 64 bits"}' frames 1f --json
 printf '\1\0\0\0\020\0\0\0\0\0\021\0' >"$work/list"

@@ -20,6 +20,8 @@ def answer(a):
     if kind == 'counts': return 'counts %x:%016x' % (n('not_zero'), n('digest'))
     if kind == 'shared_page': return 'pair %x %x' % (n('first'), n('second'))
     if kind == 'no_shared_page': return 'none'
+    if kind == 'bit': return 'bit %x %x' % (n('pa'), a['bit'])
+    if kind == 'no_bit': return 'none'
     if kind == 'page_fault': return 'page %x %x %02x' % (n('window'), n('page'), n('status'))
     return kind
 
@@ -123,9 +125,8 @@ def steps(w):
     if 'not_begun' in w: yield 'start      %s: %s' % (w['not_begun']['fault'], w['not_begun']['why'])
 
 
-def walk(documents):
-    d, = documents
-    yield '%s of %016x at EL%d%s: the regime is %s' % (d['access'], number(d['va']), d['el'], ', unprivileged' if d['unprivileged'] else '', d['regime'])
+def walkthrough(d, whom):
+    yield '%s of %016x at EL%d%s: the regime is %s' % (d['access'], number(d['va']), d['el'], whom, d['regime'])
     yield from registers(d['registers'])
     if d['untagged'] != d['va']: yield 'untagged   %016x' % number(d['untagged'])
     if 'stage1_off' in d: yield 'stage 1 is off: ' + d['stage1_off']
@@ -133,12 +134,29 @@ def walk(documents):
     if 'memory' in d:
         m = d['memory']
         yield 'memory     MAIR_EL%d.Attr%d is %02x: %s, %s' % (m['mair_el'], m['attr'], number(m['value']), m['memory'], m['sharing'])
+
+
+def walk(documents):
+    d, = documents
+    yield from walkthrough(d, ', unprivileged' if d['unprivileged'] else '')
     yield 'walk now   ' + told(d['walk_now'], '')
     yield 'the core   ' + told(d['core'], BY[d['by']])
     yield d['verdict']
     yield 'descriptors read: %d' % d['reads']
     yield 'by the core: %d%s' % (number(d['core_reads']), BY[d['by']])
     assert d['agree'] == ('DIFFER' not in d['verdict'])
+
+
+def flip(documents):
+    d, = documents
+    yield from walkthrough(d, ', ' + d['view'])
+    yield 'walk now   ' + told(d['answer'], '')
+    found = d['found']
+    none = 'no single bit of RAM changes this answer'
+    if found['kind'] == 'no_bit': yield none
+    elif found['kind'] == 'no_descriptor': yield none + ': no descriptor is read'
+    elif found['kind'] == 'outside_ram': yield none + ': the descriptor at %x lies outside RAM' % number(found['at'])
+    else: yield 'level %d, descriptor at %x, bit %d (%s): %s becomes %s' % (found['level'], number(found['at']), found['bit'], found['field'], told(d['answer'], ''), told(found['becomes'], ''))
 
 
 def share(thousandths, some):

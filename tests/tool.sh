@@ -81,7 +81,7 @@ a72/src/stop.rt: out of memory
 a72/src/stop.rt: a wrong list
 a72/src/stop.rt: windows that are not apart
 UNSHOWN
-(cd crates && awk -v shown="$work/shown" -f ../tests/texts.awk manual_words/src/*.rt walk_report/src/*.rt census_report/src/*.rt counters_report/src/*.rt reads_report/src/*.rt ranges_report/src/*.rt windows_report/src/*.rt frames_report/src/*.rt chord/src/*.rt trace_file/src/*.rt \
+(cd crates && awk -v shown="$work/shown" -f ../tests/texts.awk manual_words/src/*.rt walk_report/src/*.rt census_report/src/*.rt counters_report/src/*.rt reads_report/src/*.rt ranges_report/src/*.rt windows_report/src/*.rt flip_report/src/*.rt frames_report/src/*.rt chord/src/*.rt trace_file/src/*.rt \
     a72/src/*.rt trace_text/src/reason.rt) | grep -vxF -f "$work/unshown" >"$work/told"
 [ ! -s "$work/told" ] && pass || { fail 'texts of the tool that no sample shows' && sed 's/^/    /' "$work/told"; }
 
@@ -377,6 +377,8 @@ line 'p-gne 1' 1 'no line of a trace has this name (the nearest is p-gen)'
 line 'w-entri 0 0 0 0 0' 1 'no line of a trace has this name (the nearest is w-entry)'
 line 'l-wlk 1 0' 1 'no line of a trace has this name (the nearest is l-walk)'
 line 'tr exec 0' 4 'no kind of access'
+line 'flip exec 0 0' 6 'no kind of access'
+line 'flip 1 both 0' 8 'no view'
 line 'tr 5 0' 4 'no kind of access'
 line 'tr 0 0' 4 'no kind of access'
 line 'abort' 6 'an argument is missing'
@@ -583,6 +585,7 @@ same "$work/odd" 'flags, statuses and immediates at their ends'
 
 tests/ranges.sh && pass || fail 'tests/ranges.sh'
 tests/windows.sh && pass || fail 'tests/windows.sh'
+tests/flip.sh && pass || fail 'tests/flip.sh'
 
 tests/json.sh && pass || fail 'tests/json.sh'
 

@@ -1,7 +1,7 @@
 //! The commands.
 use crate::arguments::{Arguments, Options};
 use crate::stop::{Stop, Wrong};
-use crate::{arguments, ranges, totals, usage, voice_windows};
+use crate::{arguments, flipped_bit, ranges, totals, usage, voice_windows};
 use census_report::report::{Census, Form};
 use chord::story::Story;
 use core_calls::settings;
@@ -136,7 +136,7 @@ fn reads<R: Files + Input + AllocGlobal, W: Write>(
 }
 
 // The kind that an argument names; a read where it is not there.
-fn kind_of(word: Option<&&str>) -> Result<Kind, Stop> {
+pub(crate) fn kind_of(word: Option<&&str>) -> Result<Kind, Stop> {
     match word {
         None => Ok(Kind::Read),
         Some(word) => match *word {
@@ -268,6 +268,7 @@ pub fn carry_out<R: Files + Input + AllocGlobal, W: Write>(
         "counters" => count(rt, out, arguments, rest),
         "reads" => reads(rt, out, arguments, rest),
         "walk" => walk(rt, out, arguments, rest),
+        "flip" => flipped_bit::carry_out(rt, out, arguments, rest),
         "census" => census(rt, out, arguments, rest, terminal),
         "ranges" => ranges::carry_out(rt, out, arguments, rest),
         "windows" => voice_windows::carry_out(rt, out, arguments, rest),

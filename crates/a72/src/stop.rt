@@ -31,6 +31,8 @@ pub enum Wrong {
     Rate,
     #[error("the kind of access is read, write or fetch")]
     Kind,
+    #[error("the view is user or privileged")]
+    View,
     #[error("{0}: File name too long")]
     LongPath(&'static str),
     #[error("--image wants FILE@ADDRESS, the address hexadecimal")]
@@ -61,7 +63,7 @@ pub enum Stop {
     List(io::Error),
     #[error("a list of more than 10000 bytes (64 KiB)")]
     LongList,
-    /// of a command on windows of a list
+    /// of a command on windows of a list, or on a flipped bit
     #[error("the window of RAM passes 2^64")]
     PastRam,
     /// LIST is wrong
@@ -85,11 +87,20 @@ pub enum Stop {
     Memory(#[from] AllocError),
 }
 
+// A check of a command on windows or on a flipped bit.
+impl From<Check> for Stop {
+    fn from(check: Check) -> Self {
+        match check {
+            Check::Level => Stop::Census(Refused::Level),
+            _ => Stop::PastRam,
+        }
+    }
+}
+
 impl From<list::Refused> for Stop {
     fn from(refused: list::Refused) -> Self {
         match refused {
-            list::Refused::Check(Check::Level) => Stop::Census(Refused::Level),
-            list::Refused::Check(_) => Stop::PastRam,
+            list::Refused::Check(check) => Stop::from(check),
             list::Refused::List(refusal) => Stop::WrongList(refusal),
             list::Refused::Memory(error) => Stop::Memory(error),
         }

@@ -5,9 +5,9 @@ use std::io::Write;
 use std::{fmt, io};
 use strsim::levenshtein;
 
-const COMMANDS: [&str; 11] = [
-    "run", "reads", "audit", "walk", "counters", "census", "ranges", "windows", "frames", "chord",
-    "help",
+const COMMANDS: [&str; 12] = [
+    "run", "reads", "audit", "walk", "flip", "counters", "census", "ranges", "windows", "frames",
+    "chord", "help",
 ];
 
 // What each command does.
@@ -25,6 +25,9 @@ audit    carries out a trace, and beside each access walks the tables afresh: sh
 walk     carries out a trace, then shows one translation of ADDRESS (hexadecimal) step by step: registers,
          range, each descriptor, the end, and what the core answers. A read at the core's level, or as named.
          The status is 1 where the core answers otherwise than the walk.
+flip     carries out a trace, then shows the walk of ADDRESS (hexadecimal) and the first bit of a descriptor in RAM whose
+         flip changes how an access ends with nothing cached, and what it ends in then; or that no bit of RAM does. A
+         read at the core's level, by its own rights, or as named; the unprivileged mark does not count.
 counters carries out a trace, then shows what the cache counted at each exception level: translations that an
          entry answered, walks, descriptors that were read, the share of walks with a bar, the sums, and which
          level walks and reads most.
@@ -42,10 +45,10 @@ chord    sixteen voices, a page each, and every order of a small chord: no tone 
          cache, which loses one.
 
 TRACE is a file of lines, or - for standard input, which is carried out as it comes: tr, dpa, fpa, ld, st, if, sys,
-reg, level, mark, x, abort, census, win; fresh, window, zero, poke, load, bytes; leaves l-..; pokes p-..; parts w-..
-Numbers are hexadecimal without 0x; # starts a comment. Names stand for numbers as an assembler has them: reg TCR_EL1
-19, tlbi vae1is x1, at s1e1r x0, dc zva x2. A file with a bad line gets a message `a72: FILE:LINE:COLUMN: reason`
-on standard error, and nothing else happens. --image FILE@ADDRESS: the bytes of FILE, a raw dump, are the
+reg, level, mark, x, abort, census, win, flip; fresh, window, zero, poke, load, bytes; leaves l-..; pokes p-..; parts
+w-.. Numbers are hexadecimal without 0x; # starts a comment. Names stand for numbers as an assembler has them: reg
+TCR_EL1 19, tlbi vae1is x1, at s1e1r x0, dc zva x2. A file with a bad line gets a message `a72: FILE:LINE:COLUMN:
+reason` on standard error, and nothing else happens. --image FILE@ADDRESS: the bytes of FILE, a raw dump, are the
 window before the first line, from the physical ADDRESS on. --json: what a command says as one JSON document, of run
 as one for each operation; what keeps a call from being carried out too, on standard error.
 ";
@@ -61,11 +64,12 @@ pub fn is_command(word: &str) -> bool {
 }
 
 // The calls.
-const CALLS: [&str; 11] = [
+const CALLS: [&str; 12] = [
     "a72 run TRACE [--short|--words] [--full]",
     "a72 reads TRACE [N]",
     "a72 audit TRACE [--all]",
     "a72 walk TRACE ADDRESS [read|write|fetch] [LEVEL]",
+    "a72 flip TRACE ADDRESS [read|write|fetch] [user|privileged] [LEVEL]",
     "a72 counters TRACE",
     "a72 census TRACE FIRST PAGES [LEVEL] [--svg]",
     "a72 ranges TRACE [FIRST LAST] [LEVEL]",
@@ -93,7 +97,7 @@ pub struct Version {
 /// The calls, and what each command does.
 #[derive(Clone, Copy, Serialize)]
 pub struct Help {
-    calls: [&'static str; 11],
+    calls: [&'static str; 12],
     details: &'static str,
 }
 

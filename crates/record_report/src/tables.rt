@@ -12,6 +12,7 @@ pub enum Kind {
     Abort,
     Census,
     DataPa,
+    Flip,
     FetchPa,
     Fetch,
     LeafWalk,
@@ -34,10 +35,11 @@ pub enum Kind {
 }
 
 /// The kinds, each with its name.
-pub const KINDS: [(Kind, &str); 22] = [
+pub const KINDS: [(Kind, &str); 23] = [
     (Kind::Abort, "abort"),
     (Kind::Census, "census"),
     (Kind::DataPa, "dpa"),
+    (Kind::Flip, "flip"),
     (Kind::FetchPa, "fpa"),
     (Kind::Fetch, "if"),
     (Kind::LeafWalk, "l-walk"),
@@ -90,6 +92,7 @@ impl Kind {
             Call::Abort(_) => Kind::Abort,
             Call::Census(..) => Kind::Census,
             Call::Windows => Kind::Windows,
+            Call::Flip(..) => Kind::Flip,
         }
     }
 
@@ -113,7 +116,7 @@ pub const STATUSES: usize = NUMBERS + 16;
 /// Where the levels of leaves begin.
 pub const LEAVES: usize = STATUSES + 64;
 
-const ANSWERS: [&str; 8] = [
+const ANSWERS: [&str; 9] = [
     "ok",
     "val",
     "none",
@@ -122,6 +125,7 @@ const ANSWERS: [&str; 8] = [
     "unimplemented",
     "PAR ok",
     "counts",
+    "bit",
 ];
 
 const CLASSES: [&str; 25] = [

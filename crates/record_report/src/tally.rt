@@ -31,13 +31,13 @@ fn done_place(kind: Kind, par: u64) -> usize {
     }
 }
 
-// The place of an answer in its row: ok 0, val 1, none 2, pair 3, undefined 4, unimplemented 5, PAR ok 6, counts 7;
-// then the numbers of checks, statuses, and leaves by level.
+// The place of an answer in its row: ok 0, val 1, none 2, pair 3, undefined 4, unimplemented 5, PAR ok 6, counts 7,
+// bit 8; then the numbers of checks, statuses, and leaves by level.
 fn place_of(kind: Kind, answer: Answer, par: u64) -> usize {
     match answer {
         Answer::Reply(Reply::Done) => done_place(kind, par),
         Answer::Reply(Reply::Value(_)) => 1,
-        Answer::Reply(Reply::Faults) | Answer::Shared(None) => 2,
+        Answer::Reply(Reply::Faults) | Answer::Shared(None) | Answer::Flipped(None) => 2,
         Answer::Reply(Reply::Refused(number)) => NUMBERS + usize::from(number % 16),
         Answer::Reply(Reply::Fault { fault, .. }) => status_place(fault),
         Answer::Reply(Reply::Stopped(Stop::Exception(e))) => match e {
@@ -48,6 +48,7 @@ fn place_of(kind: Kind, answer: Answer, par: u64) -> usize {
         Answer::Reply(Reply::Stopped(Stop::Unimplemented)) => 5,
         Answer::Pair(..) | Answer::Shared(Some(_)) => 3,
         Answer::Counts { .. } => 7,
+        Answer::Flipped(Some(_)) => 8,
         Answer::Page(page) => status_place(page.fault),
         Answer::Leaf(leaf) => LEAVES + usize::from(leaf.level % 4),
     }

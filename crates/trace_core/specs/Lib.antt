@@ -1,3 +1,4 @@
 -- What the contracts of `trace_core` cite.
 pub mod Told
 pub mod Shared
+pub mod Flipped

@@ -1,6 +1,6 @@
 //! The core, its window of RAM, and what a trace's lines do to them.
 use crate::calls::Carried;
-use crate::{calls, edits, leaves, memory, shared};
+use crate::{calls, edits, flipped, leaves, memory, shared};
 use core_calls::inspect;
 use cpu::Core;
 use cpu::call::{Call, Reply};
@@ -144,6 +144,10 @@ impl Machine {
                 first, pages,
             )),
             Operation::Call(Call::Windows) => Performed::from(self.windows()),
+            Operation::Call(Call::Flip(kind, user, va)) => {
+                let ram = self.ram.as_mut_slice();
+                Performed::from(flipped::answer(&self.core, self.base, ram, va, kind, user))
+            }
             Operation::Call(call) => {
                 let ram = self.ram.as_mut_slice();
                 Performed::from(calls::carry_out(&mut self.core, self.base, ram, call))

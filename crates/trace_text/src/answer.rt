@@ -2,12 +2,13 @@
 use call_words::reply;
 use cpu::call::Reply;
 use exception::kind::{Exception, Stop};
+use flip::FlippedBit;
 use std::fmt;
 use walk::level::Leaf;
 use windows::Pair;
 use windows::pages::PageFault;
 
-/// The reply of a call, or what a leaf of a trace, a census or a list of windows finds.
+/// The reply of a call, or what a leaf of a trace, a census, a list of windows or a flip finds.
 #[derive(Clone, Copy)]
 pub enum Answer {
     Reply(Reply),
@@ -20,6 +21,8 @@ pub enum Answer {
     Shared(Option<Pair>),
     /// The first page of a list of windows that faults.
     Page(PageFault),
+    /// The bit of RAM whose flip changes an answer, if one does.
+    Flipped(Option<FlippedBit>),
 }
 
 /// Attribute index, shareability, NS and global: the first three are the descriptor's own bits.
@@ -51,8 +54,9 @@ impl Answer {
             Answer::Pair(a, b) => [4, a, b, 0],
             Answer::Counts { count, digest } => [11, count, digest, 0],
             Answer::Shared(Some(pair)) => [4, pair.first, pair.second, 0],
-            Answer::Shared(None) => reply::words(Reply::Faults),
+            Answer::Shared(None) | Answer::Flipped(None) => reply::words(Reply::Faults),
             Answer::Page(page) => [12, page.window, page.page, u64::from(page.fault.fsc)],
+            Answer::Flipped(Some(flipped)) => [13, flipped.pa, u64::from(flipped.bit), 0],
         }
     }
 }
@@ -95,7 +99,8 @@ impl fmt::Display for Answer {
             Answer::Pair(a, b) => write!(f, "pair {a:x} {b:x}"),
             Answer::Counts { count, digest } => write!(f, "counts {count:x}:{digest:016x}"),
             Answer::Shared(Some(Pair { first, second })) => write!(f, "pair {first:x} {second:x}"),
-            Answer::Shared(None) => f.write_str("none"),
+            Answer::Shared(None) | Answer::Flipped(None) => f.write_str("none"),
+            Answer::Flipped(Some(FlippedBit { pa, bit })) => write!(f, "bit {pa:x} {bit:x}"),
             Answer::Page(
                 PageFault {
                     window,

@@ -70,6 +70,26 @@ impl Argument for Kind {
     }
 }
 
+/// For whom an address is translated: 0 or `privileged`, 1 or `user`.
+#[derive(Clone, Copy)]
+pub struct View {
+    pub user: bool,
+}
+
+impl Argument for View {
+    fn read(word: &[u8]) -> Result<View, Reason> {
+        match names::is_user(word) {
+            Some(user) => Ok(View { user }),
+            None if names::is_name(word) => Err(Reason::NotView),
+            None => match u64::read(word)? {
+                0 => Ok(View { user: false }),
+                1 => Ok(View { user: true }),
+                _ => Err(Reason::NotView),
+            },
+        }
+    }
+}
+
 /// The encoding of a register, as a number or by the register's name.
 #[derive(Clone, Copy)]
 pub struct Key(pub u32);

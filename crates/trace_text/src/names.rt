@@ -1,4 +1,4 @@
-//! Names that stand in a trace for numbers: of lines, exceptions, kinds of access and regimes. Capitals do not matter,
+//! Names that stand in a trace for numbers: of lines, exceptions, kinds of access, views and regimes. Capitals do not matter,
 //! but in a line's own name; there they do not in `at`, `dc`, `ic` and `tlbi`.
 use crate::reason::Reason;
 use manual_words::nearest::Nearest;
@@ -7,7 +7,7 @@ use tlb::access::Kind;
 
 // What a line may begin with.
 const LINES: &str =
-    "fresh window zero load bytes poke tr dpa fpa ld st if sys at dc ic tlbi reg level mark x abort census win \
+    "fresh window zero load bytes poke tr dpa fpa ld st if sys at dc ic tlbi reg level mark x abort census win flip \
     l-asid l-on l-untag l-walk l-bits l-perm l-bank l-vec l-syn \
     p-level p-pc p-spsel p-gen p-cnt p-bc w-word w-hint w-entry w-fetch";
 
@@ -78,6 +78,17 @@ pub fn kind(word: &[u8]) -> Option<Kind> {
         Some(Kind::Write)
     } else if is(word, "fetch") {
         Some(Kind::Fetch)
+    } else {
+        None
+    }
+}
+
+/// Whether it is EL0's view that a word names, or the regime's own.
+pub fn is_user(word: &[u8]) -> Option<bool> {
+    if is(word, "user") {
+        Some(true)
+    } else if is(word, "privileged") {
+        Some(false)
     } else {
         None
     }

@@ -1,5 +1,5 @@
 //! What a line of a trace means: a line, nothing, or the place and the reason of a refusal.
-use crate::argument::{Argument, General, Key, Write};
+use crate::argument::{Argument, General, Key, View, Write};
 use crate::lex::{Word, Words};
 use crate::line::{
     Digits, LONGEST_BYTES, LONGEST_WINDOW, Leaf, Line, Load, Operation, Part, Poke, Setup,
@@ -103,6 +103,7 @@ impl<'a> Reader<'a> {
             b"abort" => Call::Abort(self.exception()?),
             b"census" => Call::Census(self.next()?, self.next()?),
             b"win" => Call::Windows,
+            b"flip" => Call::Flip(self.next()?, self.next::<View>()?.user, self.next()?),
             _ => match Group::named(name.text) {
                 Some(group) => self.maintenance(group)?,
                 None => return Err(name.refused(names::no_such_line(name.text))),

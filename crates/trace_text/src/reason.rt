@@ -31,6 +31,8 @@ pub enum Reason {
     NotFlag,
     #[error("no kind of access (1 read, 2 write, 4 fetch)")]
     NotKind,
+    #[error("no view (0 privileged, 1 user)")]
+    NotView,
     #[error("no regime (1, 2 or 3)")]
     NotRegime,
     #[error("a byte that no line holds outside a comment")]

@@ -48,6 +48,7 @@ fn call<W: fmt::Write>(f: &mut fmt::Formatter<W>, call: Call) -> fmt::Result {
         }
         Call::Census(first, pages) => line(f, "census", &[first, pages]),
         Call::Windows => f.write_str("win"),
+        Call::Flip(kind, user, va) => line(f, "flip", &[u64::from(kind), u64::from(user), va]),
     }
 }
 

@@ -1,5 +1,5 @@
 -- What an access is told: by a walk made now, and by the core.
-use Rattle.std.specs.Prelude.{if◌then◌else◌, ℕ, ◌==◌, Bool, true, false, List, Option, Ok, Err}
+use Rattle.std.specs.Prelude.{if◌then◌else◌, ℕ, ◌==◌, Bool, true, false, List, Option, Some, None, Ok, Err}
 use Rattle.walk.specs.Regime.{stage1_on}
 use Rattle.walk.specs.Tag.{untagged}
 use Rattle.walk.specs.Walk.{walk_of}
@@ -14,7 +14,7 @@ use Rattle.cpu.specs.Step.{step_of}
 use Rattle.cpu.specs.declared.{Core.Core, call.Reply.Reply}
 use Rattle.cpu.specs.declared.call.Call.TheVariants.{Translate}
 use Rattle.cpu.specs.declared.call.Reply.TheVariants as Reply
-use Rattle.walk_report.specs.declared.answer.Told.{Told}
+use Rattle.walk_report.specs.declared.{answer.Told.Told, levels.Steps.Steps}
 use Rattle.walk_report.specs.declared.answer.Told.TheVariants.{Address, Fault, Nothing}
 
 -- an answer
@@ -34,6 +34,17 @@ walk_told c memory kind va =
     let r = regime_of c.privilege.level in
     let u = untagged (bank_now c).tcr r va in
     if stage1_on (bank_now c) r then told_by_walk c kind va (walk_of (bank_now c) r u memory) else told_of (flat_answer u)
+
+-- the end of a walk of the regime of the core's level, if stage 1 is on
+abbrev pub walk_end : Core → ℕ → (ℕ → Option ℕ) → Option Walked
+walk_end c va memory =
+    let r = regime_of c.privilege.level in
+    if stage1_on (bank_now c) r then Some (walk_of (bank_now c) r (untagged (bank_now c).tcr r va) memory) else None
+
+-- the end that steps come to
+abbrev pub end_shown : Option Steps → Option Walked
+end_shown (Some steps) = Some steps.answer
+end_shown None = None
 
 -- the core's own reply
 abbrev pub told_reply : Reply → Told

@@ -1,4 +1,7 @@
 // Bits, rights and faults, as numbers, letters and words.
+ghost use Rattle.std.specs.Prelude.{◌≡◌};
+ghost use Rattle.walk_report.specs.Bits.{kind_bit};
+
 use json_text::{Hex, Shown};
 use manual_words::status::Status;
 use serde::{Described, Serialize, Serializer};
@@ -52,6 +55,43 @@ impl Serialize for Rights {
         })?;
         out.str(letters(self.perms / 8))?;
         out.end_map()
+    }
+}
+
+/// A bit of a descriptor that says what the descriptor is.
+#[derive(Clone, Copy, PartialEq, Eq)]
+pub enum KindBit {
+    Valid,
+    TableOrPage,
+}
+
+impl KindBit {
+    /// By its number, of the two that there are.
+    pub fn at(bit: u8) -> Option<Self>
+        ensures { result ≡ kind_bit bit }
+    {
+        match bit {
+            0 => Some(KindBit::Valid),
+            1 => Some(KindBit::TableOrPage),
+            _ => None,
+        }
+    }
+}
+
+impl fmt::Display for KindBit {
+    fn fmt<W: fmt::Write>(&self, f: &mut fmt::Formatter<W>) -> fmt::Result {
+        f.write_str(match self {
+            KindBit::Valid => "valid",
+            KindBit::TableOrPage => "table or page",
+        })
+    }
+}
+
+impl Described for KindBit {}
+
+impl Serialize for KindBit {
+    fn serialize<S: Serializer>(&self, out: &mut S) -> Result<(), S::Error> {
+        out.collect_str(self)
     }
 }
 

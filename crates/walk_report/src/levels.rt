@@ -3,6 +3,7 @@ ghost use Rattle.std.specs.Prelude.{◌≡◌, length};
 ghost use Rattle.word.specs.Ram.{word_at};
 ghost use Rattle.walk.specs.Fetches.{fetches_of};
 ghost use Rattle.walk.specs.Walk.{walk_of};
+ghost use Rattle.walk_report.specs.Levels.{level_at, level_of};
 
 use crate::fields::{Faulted, Rights, bit};
 use json_text::{Count, Hex};
@@ -179,6 +180,27 @@ impl Level {
             descriptor: read.map(Hex),
             to,
         }
+    }
+}
+
+// The level of a row whose descriptor lies at an address; else what the rows after it have.
+fn level_of(at: u64, row: Option<Level>, after: Option<u64>) -> Option<u64>
+    ensures { result ≡ level_of at row after }
+{
+    match row {
+        Some(row) if row.at.0 == at => Some(row.level),
+        _ => after,
+    }
+}
+
+impl Steps {
+    /// The level of the first descriptor that lies at an address, of those that the walk reads.
+    pub fn level_at(&self, at: u64) -> Option<u64>
+        ensures { result ≡ level_at at self.now.levels }
+    {
+        let rows = self.levels;
+        let last = level_of(at, rows[2], level_of(at, rows[3], None));
+        level_of(at, rows[0], level_of(at, rows[1], last))
     }
 }
 

@@ -6,3 +6,5 @@ pub mod explain;
 pub mod fields;
 pub mod levels;
 mod registers;
+pub mod theorems;
+pub mod walkthrough;

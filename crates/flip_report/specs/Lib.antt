@@ -1,0 +1,2 @@
+-- What the contracts of `flip_report` cite: what is told of a flipped bit.
+pub mod Found
