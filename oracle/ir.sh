@@ -1,6 +1,6 @@
 #!/bin/sh
 # Instructions a call of each case of `bench`, on the Rust and on the library: callgrind counts two runs of different
-# length (a census walks 65,536 pages a call, a list of windows up to 1,024: few), and their difference is divided by the calls between them. Writes lines `NUMBER RUST LIBRARY` to the file
+# length (a census walks 65,536 pages a call, a list of windows up to 1,024, a flipped bit 65: few), and their difference is divided by the calls between them. Writes lines `NUMBER RUST LIBRARY` to the file
 # given, which `bench time --counts FILE` takes. SIDE=plain counts the core as plain Rust in the library's place.
 #   ir.sh BENCH FILE [NUMBER..]
 set -eu
@@ -23,6 +23,7 @@ each() {
     case $3 in
         census*) few=1 many=3 ;;
         windows*) few=2 many=12 ;;
+        flip*) few=20 many=120 ;;
         *) few=200 many=1200 ;;
     esac
     a=$(whole "$1" "$2" $few)

@@ -2,7 +2,7 @@
 //!
 //! On the Rust's side the operation itself is called, behind one call that is not inlined, with RAM at its quickest;
 //! the checks are not made there. On the library's side its exported function is called. Translations,
-//! loads, stores, censuses and lists of windows have a third side: the Rust behind the library's signatures, with the checks.
+//! loads, stores, censuses, lists of windows and flipped bits have a third side: the Rust behind the library's signatures, with the checks.
 //!
 //! The core as plain Rust may stand in the library's place: its methods, with their checks, behind one call each.
 mod cases;
@@ -56,6 +56,8 @@ pub enum Work {
     Frames(Rate),
     /// The argument is 0 or 1: a list, or it turned round.
     Windows(Lists),
+    /// Kind, and whether EL0's rights count; the argument is an address.
+    Flip(u8, bool),
 }
 
 /// Lists of windows.
@@ -94,6 +96,12 @@ impl Lists {
 #[inline(always)]
 fn met(found: Option<(usize, usize)>) -> u64 {
     found.map_or(1, |(first, second)| (first << 8 | second) as u64)
+}
+
+/// The first bit whose flip changes an answer, in the sum.
+#[inline(always)]
+fn flipped(found: Option<(u64, u8)>) -> u64 {
+    found.map_or(1, |(at, bit)| at << 6 | u64::from(bit))
 }
 
 /// One line of the table.
@@ -210,7 +218,7 @@ impl Pair {
 /// The loop of every measurement. The arguments come from memory, and the sum takes every answer.
 #[inline(always)]
 fn repeat(n: usize, args: [u64; 2], mut call: impl FnMut(u64) -> u64) -> u64 {
-    let args = black_box(args);
+    let args = black_box(&args);
     let mut sum = 0u64;
     for i in 0..n {
         sum = sum.rotate_left(1).wrapping_add(call(args[i & 1]));

@@ -3,7 +3,7 @@
 //! of that page that the core really made, that no later invalidation covers, and that is global or of the ASID in
 //! force now, differs from the walk now, the two answers are equal. (The scope lets every walk the page would have
 //! had excuse a difference, so it asks less.) A census is a step that does nothing, and its counts are those of the
-//! core without a cache; so is a list of windows, with what it comes to. A translation that walks reads the descriptors of the walk now, any other none; an operation
+//! core without a cache; so is a list of windows, with what it comes to, and so is a flipped bit. A translation that walks reads the descriptors of the walk now, any other none; an operation
 //! reads what its translations do, and AT what a walk does, whatever the cache holds. After each step [`invariant`] is
 //! checked too.
 mod invariant;
@@ -27,6 +27,7 @@ pub struct Seen {
     pub equal_though_excused: u64,
     pub censuses: u64,
     pub lists: u64,
+    pub flips: u64,
 }
 
 /// One list of operations under test.
@@ -186,19 +187,20 @@ impl Trial<'_> {
         }
     }
 
-    /// A census or a list of windows on both cores.
+    /// What looks alone, on both cores: a census, a list of windows, a flipped bit. RAM is one, and stays.
     fn look(&mut self, op: &Op, core: &mut dyn Core, ram: &mut Ram) -> Result<(), String> {
-        let before = core.state();
+        let before = (core.state(), ram.clone());
         let (want, got) = (self.bare.step(op, ram), core.step(op, ram));
         ram.taken(op);
         match op {
             Op::Windows => self.seen.lists += 1,
+            Op::Flip(..) => self.seen.flips += 1,
             _ => self.seen.censuses += 1,
         }
         if got != want {
             return Err(format!("gives {got}, without a cache {want}"));
         }
-        if core.state() != before {
+        if before != (core.state(), ram.clone()) {
             return Err("it moved something".into());
         }
         Ok(())

@@ -7,8 +7,8 @@
 //! scope's: the Rust function of that name. `a72_init_at` makes the core that `Cpu::new` makes.
 //!
 //! [`CCore`] runs by `a72_step`, or, with the feature `rattle`, by the function for each operation (`ffi/each.rs`); the
-//! counts of a census are `a72_census`'s in both, and what a list of windows comes to `a72_windows`'s. What the core holds is what `a72_save` gives, after every operation, and
-//! what it shall hold goes in by `a72_restore`. Without the feature the model stands behind these functions.
+//! counts of a census are `a72_census`'s in both, what a list of windows comes to `a72_windows`'s, and a flipped bit
+//! `a72_flip`'s. What the core holds is what `a72_save` gives, after every operation, and what it shall hold goes in by `a72_restore`. Without the feature the model stands behind these functions.
 //!
 //! # An operation: 8 words
 //!
@@ -32,6 +32,7 @@
 //! | 12 | `abort` abort entry | E |
 //! | 13 | `census` page census | first address, number of pages |
 //! | 14 | `win` list of windows; it takes the bytes of the list that lines of code 68 brought | |
+//! | 15 | `flip` one flipped bit | kind as of `tr`, 0 or 1 for EL0's view, address |
 //! | 20 | `l-asid` | |
 //! | 21 | `l-on` stage1_on | regime (1 to 3) |
 //! | 22, 23 | `l-untag`, `l-walk` | regime, address |
@@ -45,7 +46,7 @@
 //! | 44 | `p-cnt`: hits and walks of EL0, flushes, drops, epoch become this, hits and walks of EL1 to EL3 0 | value |
 //! | 45 | `p-bc`: the pending broadcast is taken (none) | |
 //!
-//! Codes 1 to 14 are the list, and only they reach `a72_step`. 20 to 28
+//! Codes 1 to 15 are the list, and only they reach `a72_step`. 20 to 28
 //! are leaves, which change nothing: the core behind the boundary has none, so they are left out for it and counted
 //! ([`Core::has`]). 40 to 45 are pokes, which only the comparer uses: the harness restores the core from saved words that
 //! it edited, or, by each function, calls the library's own setter where there is one (41, 43, 45). The lines of a trace around the operations have codes in files: 60 `fresh`; 61 `window` base, length; 62 `zero`; 63
@@ -62,7 +63,7 @@
 //! |---|---|---|
 //! | 0 | ok | |
 //! | 1 | value | value |
-//! | 2 | none: `dpa`, `fpa` would fault; `l-bank` knows no such key; `win` no two windows share a page | |
+//! | 2 | none: `dpa`, `fpa` would fault; `l-bank` knows no such key; `win` no two windows share a page; `flip` no single bit changes the answer | |
 //! | 3 | a walk's leaf | address; permissions + level << 8; attribute index + shareability << 8 + NS << 16 + global << 24 |
 //! | 4 | pair: `l-bank` register and level; `l-syn` ESR and FAR; `win` two windows | first, second |
 //! | 5 | the check's number | 1 to 7, 9 |
@@ -72,9 +73,10 @@
 //! | 10 | instruction abort | address, status |
 //! | 11 | the counts of a census | how many are not 0, the digest of all 129 |
 //! | 12 | the first page that faults of a list of windows | window, page, status |
+//! | 13 | a flipped bit | the descriptor's address, the bit |
 //!
 //! `tr`, `dpa`, `fpa`, `ld`, `if` give a value; `st`, `sys`, `reg`, `level`, `mark`, `x`, `abort` and the pokes give
-//! ok. `census` and `win` give ok by `a72_step`, or 1 or 2; the counts are `a72_census`'s, what a list comes to `a72_windows`'s, and codes 11 and 12 stand in records alone. `l-bank`
+//! ok. `census`, `win` and `flip` give ok by `a72_step`, or 1 or 2; the counts are `a72_census`'s, what a list comes to `a72_windows`'s, the bit `a72_flip`'s, and codes 11 to 13 stand in records alone. `l-bank`
 //! numbers the registers SCTLR 0, TCR, TTBR0, TTBR1, MAIR, VBAR, ELR, SPSR, ESR, FAR, SCR, HCR, VPIDR, VMPIDR 13.
 //! `l-syn` without a FAR gives a value, the ESR.
 //!
@@ -110,8 +112,8 @@ use crate::rust::RustCore;
 use crate::wild::Part;
 use crate::{Core, Ram, State};
 pub use held::Held;
-pub use looks::{count, windows_into};
-use looks::{census, counted, looked, windows};
+pub use looks::{count, flip_into, windows_into};
+use looks::{census, counted, flip, looked, windows};
 pub use state::{levels_of, state_of, words_of, ENTRY_WORDS, HINT_WORDS, LEVEL_WORDS, RETIRED};
 pub use words::{decode, decode_answer, encode, encode_answer, exception};
 
@@ -148,7 +150,9 @@ type Set = fn(&mut Held, &Op) -> bool;
 
 /// By `a72_step`.
 fn step(core: &mut Held, op: &Op, ram: &mut Ram) -> (Ans, u64) {
-    let (at, len) = (ram.bytes.lent(op.may_write_ram()), ram.bytes.len());
+    // A step that looks writes nothing.
+    let to_write = op.may_write_ram() && !op.looks();
+    let (at, len) = (ram.bytes.lent(to_write), ram.bytes.len());
     let (line, mut words) = (encode(&Line::Op(*op)), [UNWRITTEN; 5]);
     // Sound: each pointer is that of an array or a vector, with its own length, and no two overlap.
     let code = unsafe { a72_step(&line, core.handle(), ram.base, at, len, &mut words) };
@@ -160,6 +164,7 @@ fn step(core: &mut Held, op: &Op, ram: &mut Ram) -> (Ans, u64) {
     match *op {
         Op::Census(first, pages) => (counted(said, census(core, first, pages, ram)), reads),
         Op::Windows => (looked(said, windows(core, ram)), reads),
+        Op::Flip(kind, user, va) => (looked(said, flip(core, kind, user, va, ram)), reads),
         _ => (said, reads),
     }
 }
@@ -337,9 +342,13 @@ mod tests {
         let before = saved(&core);
         for words in [
             &[0][..],
-            &[15],
+            &[16],
             &[20],
             &[1, 3],
+            &[15],
+            &[15, 3],
+            &[15, 1, 2],
+            &[15, 4, u64::MAX],
             &[10, 2],
             &[12, 8],
             &[12, 1, 0x1_0000],

@@ -4,6 +4,7 @@ mod address;
 mod census;
 mod crossing;
 mod flat;
+mod flips;
 pub mod keys;
 mod registers;
 mod rng;
@@ -39,6 +40,8 @@ pub struct Generator {
     across: Rng,
     /// For lists of windows.
     lists: Rng,
+    /// For flipped bits.
+    bits: Rng,
     lines: Vec<Line>,
     style: Style,
     /// The descriptors written, by address.
@@ -60,7 +63,7 @@ pub struct Generator {
     wrap: bool,
 }
 
-/// A trace of about `n` operations; censuses, lists of windows, the accesses in [`crossing`] and what stands at the end
+/// A trace of about `n` operations; censuses, lists of windows, flipped bits, the accesses in [`crossing`] and what stands at the end
 /// are not counted.
 pub fn trace(seed: u64, n: usize, style: Style) -> Vec<Line> {
     let mut g = Generator::new(seed, style);
@@ -79,6 +82,7 @@ pub fn trace(seed: u64, n: usize, style: Style) -> Vec<Line> {
     }
     g.flat_edge(seed);
     g.voices(seed);
+    g.flips(seed);
     g.lines
 }
 
@@ -89,6 +93,7 @@ impl Generator {
             aside: Rng::new(!seed),
             across: Rng::new(seed.rotate_left(32) ^ 11),
             lists: Rng::new(seed.rotate_left(32) ^ 5),
+            bits: Rng::new(seed.rotate_left(32) ^ 8),
             lines: Vec::new(),
             style,
             mem: BTreeMap::new(),

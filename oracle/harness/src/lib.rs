@@ -8,6 +8,7 @@ pub mod domain;
 pub mod expect;
 pub mod faithful;
 pub mod ffi;
+pub mod flips;
 pub mod generate;
 pub mod grid;
 pub mod instructions;

@@ -28,6 +28,8 @@ pub enum Op {
     Census(u64, u64),
     /// The list of windows is what lines before it brought.
     Windows,
+    /// Kind, whether EL0's view is asked for, address: the first bit of RAM whose flip changes the answer.
+    Flip(u8, bool, u64),
     // Leaves, on the registers as they stand. They change nothing.
     LeafAsid,
     LeafOn(u8),
@@ -84,6 +86,7 @@ impl Op {
                 | Sys(..)
                 | Census(..)
                 | Windows
+                | Flip(..)
         )
     }
 
@@ -94,12 +97,12 @@ impl Op {
 
     /// Whether it looks at core and RAM, and moves nothing.
     pub fn looks(&self) -> bool {
-        matches!(self, Op::Census(..) | Op::Windows)
+        matches!(self, Op::Census(..) | Op::Windows | Op::Flip(..))
     }
 
-    /// Whether it may write RAM.
+    /// Whether it may write RAM. A bit is flipped in place and back.
     pub fn may_write_ram(&self) -> bool {
-        matches!(self, Op::Store(..) | Op::Sys(3, 7, 4, 1, _))
+        matches!(self, Op::Store(..) | Op::Sys(3, 7, 4, 1, _) | Op::Flip(..))
     }
 }
 
@@ -117,6 +120,8 @@ pub enum Ans {
     Number(u8),
     /// Of a list of windows the first page that faults: window, page, status.
     Page(u64, u64, u8),
+    /// A bit of RAM: the descriptor's physical address, and which of its 64 bits.
+    Bit(u64, u8),
     Undefined,
     Unimplemented,
     /// A translation's fault: the address translated and the status.

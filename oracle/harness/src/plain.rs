@@ -8,7 +8,7 @@ use crate::rust::RustCore;
 use crate::wild::Part;
 use crate::{Core, Ram, State};
 use a72::registers::Key;
-use a72::{Access, Census, Exception, Level, Status, Stop, SystemOperation, WindowsError};
+use a72::{Access, Census, Exception, FlippedBit, Level, Status, Stop, SystemOperation, View, WindowsError};
 use pimu::aarch64::Exception as Pimu;
 
 #[derive(Clone, Default)]
@@ -27,6 +27,15 @@ pub fn access(kind: u8) -> Access {
         2 => Access::Write,
         4 => Access::Fetch,
         _ => unreachable!("{kind} is no kind"),
+    }
+}
+
+/// Whose rights count.
+pub fn view(user: bool) -> View {
+    if user {
+        View::User
+    } else {
+        View::Privileged
     }
 }
 
@@ -104,6 +113,9 @@ fn step(core: &mut a72::Core, op: &Op, ram: &mut a72::Ram, list: &[u8]) -> Resul
         Op::Abort(e) => core.take(&exception(e)).map(done),
         Op::Census(first, pages) => core.census(ram, first, pages).map(|census| counted(&census)),
         Op::Windows => Ok(windows(core, ram, list)),
+        Op::Flip(kind, user, va) => core
+            .flip(ram, va, access(kind), view(user))
+            .map(|found| found.map_or(Ans::None, |FlippedBit { pa, bit }| Ans::Bit(pa, bit))),
         _ => unreachable!("{op} is none of the list"),
     }
 }

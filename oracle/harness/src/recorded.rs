@@ -1,6 +1,7 @@
 //! Recorded answers: a trace in binary with what the Rust answers, for a program that has neither Rust nor strings.
 //! `recorded/README.md` has the format and the definitions of the digests.
 mod aborts;
+mod bits;
 pub mod files;
 mod ranges;
 pub mod replay;

@@ -7,10 +7,11 @@ use pimu::aarch64::access::cpu::unprivileged;
 use std::fmt::{self, Display, Formatter};
 
 /// The kinds of operations, in the order of their names.
-const KINDS: [&str; 23] = [
+const KINDS: [&str; 24] = [
     "abort",
     "census",
     "dpa",
+    "flip",
     "fpa",
     "if",
     "l-walk",
@@ -33,7 +34,7 @@ const KINDS: [&str; 23] = [
     "x",
 ];
 
-/// The kinds of answers: those without a number, then numbers, levels of leaves, and five times 256 statuses.
+/// The kinds of answers: those without a number, then numbers, levels of leaves, five times 256 statuses, and bits.
 const PLAIN: [&str; 9] = [
     "ok",
     "val",
@@ -48,7 +49,8 @@ const PLAIN: [&str; 9] = [
 const NUMBERS: usize = PLAIN.len();
 const LEAVES: usize = NUMBERS + 10;
 const STATUSES: usize = LEAVES + 4;
-const CLASSES: usize = STATUSES + 5 * 256;
+const BITS: usize = STATUSES + 5 * 256;
+const CLASSES: usize = BITS + 64;
 const STATUS: [&str; 5] = ["fault", "data", "insn", "PAR", "page"];
 
 pub struct Tally {
@@ -91,30 +93,31 @@ fn kind(op: &Op) -> usize {
         Op::Abort(_) => 0,
         Op::Census(..) => 1,
         Op::DataPa(_) => 2,
-        Op::FetchPa(_) => 3,
-        Op::Fetch(_) => 4,
-        Op::LeafWalk(..) => 5,
-        Op::Load(..) => 6,
-        Op::Level(_) => 8,
-        Op::Mark(_) => 9,
-        Op::Reg(..) => 12,
-        Op::Store(..) => 13,
-        Op::Sys(3, 7, 4, 1, _) => 15,
+        Op::Flip(..) => 3,
+        Op::FetchPa(_) => 4,
+        Op::Fetch(_) => 5,
+        Op::LeafWalk(..) => 6,
+        Op::Load(..) => 7,
+        Op::Level(_) => 9,
+        Op::Mark(_) => 10,
+        Op::Reg(..) => 13,
+        Op::Store(..) => 14,
+        Op::Sys(3, 7, 4, 1, _) => 16,
         Op::Sys(_, 7, 8, _, _) => AT,
-        Op::Sys(_, 8, _, _, _) => 16,
-        Op::Sys(..) => 17,
-        Op::Translate(1, _) => 19,
-        Op::Translate(2, _) => 20,
-        Op::Translate(..) => 18,
-        Op::Windows => 21,
-        Op::SetX(..) => 22,
-        op if op.is_step() => 10,
-        op if op.is_poke() => 11,
-        _ => 7,
+        Op::Sys(_, 8, _, _, _) => 17,
+        Op::Sys(..) => 18,
+        Op::Translate(1, _) => 20,
+        Op::Translate(2, _) => 21,
+        Op::Translate(..) => 19,
+        Op::Windows => 22,
+        Op::SetX(..) => 23,
+        op if op.is_step() => 11,
+        op if op.is_poke() => 12,
+        _ => 8,
     }
 }
 
-const AT: usize = 14;
+const AT: usize = 15;
 
 fn status(which: usize, s: u8) -> usize {
     STATUSES + 256 * which + usize::from(s)
@@ -141,6 +144,7 @@ fn class(step: &Step) -> usize {
         Ans::Data(_, _, s) => status(1, s),
         Ans::Insn(_, s) => status(2, s),
         Ans::Page(_, _, s) => status(4, s),
+        Ans::Bit(_, b) => BITS + usize::from(b % 64),
     }
 }
 
@@ -149,6 +153,7 @@ fn class_name(place: usize) -> String {
         p if p < NUMBERS => PLAIN[p].into(),
         p if p < LEAVES => format!("no {}", p - NUMBERS),
         p if p < STATUSES => format!("leaf {}", p - LEAVES),
+        p if p >= BITS => format!("bit {}", p - BITS),
         p => format!("{} {:02x}", STATUS[(p - STATUSES) / 256], (p - STATUSES) % 256),
     }
 }

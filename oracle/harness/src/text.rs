@@ -22,6 +22,7 @@ impl Display for Ans {
             }
             Ans::Number(n) => write!(f, "no {n}"),
             Ans::Page(w, p, s) => write!(f, "page {w:x} {p:x} {s:02x}"),
+            Ans::Bit(a, b) => write!(f, "bit {a:x} {b:x}"),
             Ans::Undefined => write!(f, "undefined"),
             Ans::Unimplemented => write!(f, "unimplemented"),
             Ans::Fault(a, s) => write!(f, "fault {a:x} {s:02x}"),
@@ -82,6 +83,7 @@ impl Display for Op {
             Abort(e) => write!(f, "abort {}", exception(&e)),
             Census(first, pages) => write!(f, "census {first:x} {pages:x}"),
             Windows => write!(f, "win"),
+            Flip(k, user, va) => write!(f, "flip {k:x} {:x} {va:x}", user as u8),
             LeafAsid => write!(f, "l-asid"),
             LeafOn(r) => write!(f, "l-on {r:x}"),
             LeafUntag(r, va) => write!(f, "l-untag {r:x} {va:x}"),
@@ -173,7 +175,7 @@ impl Words<'_> {
     fn operation(&self, name: &str) -> Option<Op> {
         use Op::*;
         Some(match name {
-            "tr" => Translate(self.fit(0).filter(|k| [1, 2, 4].contains(k))?, self.num(1)?),
+            "tr" => Translate(self.kind(0)?, self.num(1)?),
             "dpa" => DataPa(self.num(0)?),
             "fpa" => FetchPa(self.num(0)?),
             "ld" => Load(self.num(0)?, self.fit(1)?),
@@ -193,6 +195,11 @@ impl Words<'_> {
             "abort" => Abort(self.exception(0)?),
             "census" => Census(self.num(0)?, self.num(1)?),
             "win" => Windows,
+            "flip" => Flip(
+                self.kind(0)?,
+                self.fit(1).filter(|v: &u8| *v <= 1)? == 1,
+                self.num(2)?,
+            ),
             "l-asid" => LeafAsid,
             "l-on" => LeafOn(self.regime(0)?),
             "l-untag" => LeafUntag(self.regime(0)?, self.num(1)?),
@@ -210,6 +217,10 @@ impl Words<'_> {
             "p-bc" => TakeBroadcast,
             _ => return None,
         })
+    }
+
+    fn kind(&self, i: usize) -> Option<u8> {
+        self.fit(i).filter(|k| [1, 2, 4].contains(k))
     }
 
     fn regime(&self, i: usize) -> Option<u8> {

@@ -46,6 +46,8 @@ fn operations() -> Vec<Op> {
         SetX(n, v),
         Census(v, !v),
         Windows,
+        Flip(4, true, v),
+        Flip(2, false, !v),
         LeafAsid,
         LeafOn(3),
         LeafUntag(2, v),
@@ -96,6 +98,7 @@ fn answers_come_back() {
         Ans::Number(6),
         Ans::Number(9),
         Ans::Page(63, 15, 0x0E),
+        Ans::Bit(v, 63),
         Ans::Undefined,
         Ans::Unimplemented,
         Ans::Fault(v, 0x17),
@@ -169,6 +172,9 @@ fn what_is_no_line_is_refused() {
         "abort data 0 1",
         "nonsense",
         "x g 0",
+        "flip 3 0 0",
+        "flip 1 2 0",
+        "flip 1 0",
         "bytes",
         "bytes 0",
         "bytes 123",
@@ -179,5 +185,7 @@ fn what_is_no_line_is_refused() {
         assert!(Line::parse(bad).is_err(), "{bad}");
     }
     assert_eq!(decode(&[1, 3, 0, 0, 0, 0, 0, 0]), None);
+    assert_eq!(decode(&[15, 3, 0, 0, 0, 0, 0, 0]), None);
+    assert_eq!(decode(&[15, 1, 2, 0, 0, 0, 0, 0]), None);
     assert_eq!(decode(&[99, 0, 0, 0, 0, 0, 0, 0]), None);
 }

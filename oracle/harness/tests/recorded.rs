@@ -41,13 +41,14 @@ fn expectations_hold() {
     held("cases.trace", 14);
     held("rules.trace", 110);
     held("leaves.trace", 81);
-    held("pokes.trace", 34);
+    held("pokes.trace", 37);
     held("census.trace", 121);
     held("flat.trace", 67);
     held("crossing.trace", 78);
     held("levels.trace", 94);
     held("reads.trace", 175);
     held("windows.trace", 115);
+    held("flips.trace", 106);
 }
 
 #[test]

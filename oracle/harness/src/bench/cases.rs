@@ -18,6 +18,7 @@ const EXCEPTION: f64 = 1.6;
 const CENSUS: f64 = 0.95;
 const FRAMES: f64 = 1.0;
 const WINDOWS: f64 = 1.1;
+const FLIP: f64 = 1.1;
 const LENT_HINT: f64 = 1.3;
 const LENT_ENTRY: f64 = 1.2;
 const LENT_WALK: f64 = 0.95;
@@ -31,6 +32,7 @@ fn plain_bar(work: Work) -> Option<f64> {
         Work::General(_) | Work::DataAbort | Work::Svc => Some(1.2),
         Work::Windows(Lists::Sixteen) => None,
         Work::Windows(_) => Some(WINDOWS),
+        Work::Flip(..) => Some(FLIP),
         _ => Some(1.0),
     }
 }
@@ -120,6 +122,20 @@ fn windows() -> Vec<Case> {
     ]
 }
 
+/// A zero descriptor at level 0, of which 64 bits are tried; bit 0 of the first of three.
+fn flips() -> Vec<Case> {
+    let here = [page(PAGE), page(PAGE) | 8];
+    let flip = |name, scene| case(name, FLIP, Work::Flip(1, false), here, scene);
+    let empty = Scene {
+        empty: true,
+        ..walk(4)
+    };
+    vec![
+        flip("flip: none, 64 bits tried", empty),
+        flip("flip: bit 0 of the first of 3 descriptors", scene()),
+    ]
+}
+
 pub fn cases() -> Vec<Case> {
     [
         translations(),
@@ -132,6 +148,7 @@ pub fn cases() -> Vec<Case> {
         second_page_faults(),
         frames(),
         windows(),
+        flips(),
     ]
     .into_iter()
     .flatten()

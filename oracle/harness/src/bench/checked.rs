@@ -1,7 +1,7 @@
 //! The Rust behind the library's own signatures: numbers in and out, lent words of RAM, the descriptors read, and the
 //! checks 1 to 3, 7 and 9 before pimu's function. So both sides do the same work.
-use super::rust::Quick;
-use super::{met, repeat, summed, told, Work, DONE, STORED};
+use super::rust::{found, Quick};
+use super::{flipped, met, repeat, summed, told, Work, DONE, STORED};
 use crate::census::{Counts, COUNTS};
 use crate::library::Answer;
 use crate::number::{CHECK_LIST, FAULT, NAMES_NOTHING, PAGE_FAULTS, UNDEFINED, UNIMPLEMENTED};
@@ -167,6 +167,30 @@ fn windows(c: &Cpu, list: &[u8], out: &mut [u64; 3], base: u64, ram: &mut [u8]) 
     0
 }
 
+#[inline(never)]
+#[allow(clippy::too_many_arguments)]
+fn flip(c: &Cpu, va: u64, kind: u64, user: u64, out: &mut [u64; 3], base: u64, ram: &mut [u8]) -> u64 {
+    if !matches!(kind, 1 | 2 | 4) || user > 1 {
+        return NAMES_NOTHING;
+    }
+    let n = missed(c, base, ram.len());
+    if n != 0 {
+        return n;
+    }
+    let found = found(c, &mut Quick { base, bytes: ram }, va, kind as u8, user == 1);
+    *out = found.map_or([0; 3], |(at, bit)| [1, at, bit.into()]);
+    0
+}
+
+/// Of a flipped bit that was not refused.
+pub(super) fn flipped_of(n: u64, out: &[u64; 3]) -> u64 {
+    match (n, *out) {
+        (0, [1, at, bit]) => flipped(Some((at, bit as u8))),
+        (0, _) => flipped(None),
+        _ => unreachable!(),
+    }
+}
+
 /// Of a list that was right and of which no page faulted.
 pub(super) fn met_of(n: u64, out: &[u64; 3]) -> u64 {
     match (n, *out) {
@@ -180,7 +204,12 @@ pub(super) fn met_of(n: u64, out: &[u64; 3]) -> u64 {
 pub fn has(work: Work) -> bool {
     matches!(
         work,
-        Work::Translate(_) | Work::Load(_) | Work::Store(_) | Work::Census(_) | Work::Windows(_)
+        Work::Translate(_)
+            | Work::Load(_)
+            | Work::Store(_)
+            | Work::Census(_)
+            | Work::Windows(_)
+            | Work::Flip(..)
     )
 }
 
@@ -217,6 +246,13 @@ pub fn run(work: Work, args: [u64; 2], c: &mut Cpu, ram: &mut Ram, n: usize) -> 
             repeat(n, args, |i| {
                 let n = windows(c, &lists[i as usize], out, base, bytes);
                 met_of(n, out)
+            })
+        }
+        Work::Flip(kind, user) => {
+            let (kind, user, out) = (kind.into(), user.into(), &mut [0; 3]);
+            repeat(n, args, |va| {
+                let n = flip(c, va, kind, user, out, base, bytes);
+                flipped_of(n, out)
             })
         }
         _ => unreachable!("no such side"),

@@ -1,9 +1,9 @@
 //! The library's side: its function for each operation, on a core.
-use super::checked::met_of;
+use super::checked::{flipped_of, met_of};
 use super::{both, fault, repeat, summed, told, Work, DONE, STORED};
 use crate::census::COUNTS;
 use crate::ffi::each::{frames_44100, frames_48000, Lent};
-use crate::ffi::{count, windows_into, Held};
+use crate::ffi::{count, flip_into, windows_into, Held};
 use crate::library::Answer;
 use crate::Ram;
 use a72::Rate;
@@ -25,6 +25,13 @@ pub fn run(work: Work, args: [u64; 2], core: &mut Held, ram: &mut Ram, n: usize)
         return repeat(n, args, |i| {
             let n = windows_into(core, &lists[i as usize], out, base, &ram.bytes);
             met_of(n, out)
+        });
+    }
+    if let Work::Flip(kind, user) = work {
+        let (kind, user, out) = (kind.into(), user.into(), &mut [0; 3]);
+        return repeat(n, args, |va| {
+            let n = flip_into(core, va, kind, user, out, base, &mut ram.bytes);
+            flipped_of(n, out)
         });
     }
     let mut lent = Lent::new(core, base, &mut ram.bytes);
@@ -68,7 +75,7 @@ pub fn run(work: Work, args: [u64; 2], core: &mut Held, ram: &mut Ram, n: usize)
             repeat(n, args, |v| summed(lent.general(r, v), DONE, 0))
         }
         Work::DataAbort => repeat(n, args, |addr| summed(lent.abort(&[5, addr, 1, 7]), DONE, 0)),
-        Work::Census(_) | Work::Windows(_) => unreachable!("made above"),
+        Work::Census(_) | Work::Windows(_) | Work::Flip(..) => unreachable!("made above"),
         Work::Frames(Rate::Hz48000) => repeat(n, args, |cycles| both(frames_48000(cycles))),
         Work::Frames(Rate::Hz44100) => repeat(n, args, |cycles| both(frames_44100(cycles))),
         Work::Svc => repeat(n, args, |i| summed(lent.abort(&[1, i, 0, 0]), DONE, 0)),

@@ -1,12 +1,12 @@
 //! The plain core's side: its methods, each behind one call, as on the Rust's side.
-use super::{both, fault, met, repeat, Work, DONE, STORED};
+use super::{both, fault, flipped, met, repeat, Work, DONE, STORED};
 use crate::census::{COUNTS, FLAT, RIGHTS, STATUS};
-use crate::plain::access;
+use crate::plain::{access, view};
 use crate::Ram;
 use a72::registers::Key;
 use a72::{
-    Access, Census, Core, Exception, Frames, Level, Ram as Window, Rate, Status, Stop, SystemOperation,
-    WindowsError,
+    Access, Census, Core, Exception, FlippedBit, Frames, Level, Ram as Window, Rate, Status, Stop,
+    SystemOperation, View, WindowsError,
 };
 use std::hint::black_box;
 
@@ -73,6 +73,11 @@ fn census(c: &Core, m: &Window, first: u64, pages: u64) -> Result<Census, Stop> 
 #[inline(never)]
 fn windows(c: &Core, m: &Window, list: &[u8]) -> Result<Option<(usize, usize)>, WindowsError> {
     c.windows_of_bytes(m, list)
+}
+
+#[inline(never)]
+fn flip(c: &Core, m: &mut Window, va: u64, access: Access, view: View) -> Result<Option<FlippedBit>, Stop> {
+    c.flip(m, va, access, view)
 }
 
 #[inline(never)]
@@ -169,6 +174,13 @@ pub fn run(work: Work, args: [u64; 2], c: &mut Core, ram: &mut Ram, n: usize) ->
             both((whole, rest))
         }),
         Work::Svc => repeat(n, args, |i| done(c.take(&Exception::Svc(i as u16)))),
+        Work::Flip(kind, user) => {
+            let (access, view) = (access(kind), view(user));
+            repeat(n, args, |va| match flip(c, m, va, access, view) {
+                Ok(found) => flipped(found.map(|cell| (cell.pa, cell.bit))),
+                Err(_) => unreachable!(),
+            })
+        }
         Work::Windows(lists) => {
             let lists = lists.bytes();
             repeat(n, args, |i| match windows(c, m, &lists[i as usize]) {

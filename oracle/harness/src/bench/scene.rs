@@ -46,6 +46,8 @@ pub struct Scene {
     pub hole: Option<u64>,
     /// Whether a second last table maps the next 512 pages, from every other entry of the table above.
     pub wide: bool,
+    /// Whether no descriptor of the first table is one.
+    pub empty: bool,
     /// Whether all 1,024 entries are live.
     pub full: bool,
     /// X0 and X1.
@@ -67,6 +69,7 @@ impl Default for Scene {
             on: true,
             hole: None,
             wide: false,
+            empty: false,
             full: false,
             x: [PAGE << 12, PAGE << 12 | 8],
         }
@@ -80,7 +83,12 @@ impl Scene {
         let last = self.levels - 1;
         for i in 0..512 {
             for level in 0..last {
-                ram.put(TABLES[level] + 8 * i, 8, TABLES[level + 1] | 3);
+                let table = if self.empty && level == 0 {
+                    NOTHING
+                } else {
+                    TABLES[level + 1] | 3
+                };
+                ram.put(TABLES[level] + 8 * i, 8, table);
             }
             let leaf = match (self.leaf, self.levels) {
                 (NOTHING, _) => 0,

@@ -50,7 +50,7 @@ fn main() {
     let (said, good) = verdict(seen.cached, held, ["as without a cache", "NOT AS WITHOUT A CACHE"]);
     println!(
         "translations {} (flat {}, walked {}, from the cache {}); stale but excused {}; excused and yet equal {}; \
-         censuses {}; lists of windows {}; {said}",
+         censuses {}; lists of windows {}; flipped bits {}; {said}",
         seen.translations,
         seen.flat,
         seen.walked,
@@ -59,6 +59,7 @@ fn main() {
         seen.equal_though_excused,
         seen.censuses,
         seen.lists,
+        seen.flips,
     );
     finish(good)
 }

@@ -3,7 +3,7 @@
 //! Each gives one of the numbers in [`crate::number`]. An [`Answer`] takes the value, or the address of a data abort,
 //! and the descriptors read. Without a value or an address that word stays as it was, and of a call that is refused,
 //! undefined or unimplemented the whole answer.
-use super::{census, exception, windows, Held, UNWRITTEN};
+use super::{census, exception, flip, windows, Held, UNWRITTEN};
 use crate::library::*;
 use crate::number::{status, DONE, LAST_CHECK, UNDEFINED, UNIMPLEMENTED};
 use crate::op::{Ans, Op};
@@ -154,6 +154,7 @@ pub(super) fn step(core: &mut Held, op: &Op, ram: &mut Ram) -> (Ans, u64) {
     match *op {
         Census(first, pages) => return (census(core, first, pages, ram), 0),
         Windows => return (windows(core, ram), 0),
+        Flip(kind, user, va) => return (flip(core, kind, user, va, ram), 0),
         _ => {}
     }
     let (at, len) = (ram.bytes.lent(op.may_write_ram()), ram.bytes.len());

@@ -1,11 +1,11 @@
-//! What looks at core and RAM and moves nothing: the counts of a census, by `a72_census`, and what a list of windows comes
-//! to, by `a72_windows`.
+//! What looks at core and RAM and moves nothing: the counts of a census, by `a72_census`, what a list of windows comes
+//! to, by `a72_windows`, and the first bit of RAM whose flip changes an answer, by `a72_flip`.
 use super::{library, Held, UNWRITTEN};
 use crate::census::{Counts, COUNTS};
 use crate::number;
 use crate::op::Ans;
 use crate::Ram;
-use library::{a72_census, a72_windows};
+use library::{a72_census, a72_flip, a72_windows};
 
 /// `a72_census`: its number.
 #[inline(always)]
@@ -62,7 +62,44 @@ pub(super) fn windows(core: &Held, ram: &mut Ram) -> Ans {
     }
 }
 
-/// The answer by `a72_windows`, where `a72_step` said done, or refused alike.
+/// `a72_flip`: its number. RAM is changed while it runs.
+#[inline(always)]
+pub fn flip_into(
+    core: &Held,
+    va: u64,
+    kind: u64,
+    user: u64,
+    out: &mut [u64; 3],
+    base: u64,
+    ram: &mut [u8],
+) -> u64 {
+    let (at, len) = (ram.as_mut_ptr(), ram.len());
+    // Sound: each pointer is that of a core, an array or a slice, with its own length; both are borrowed exclusively.
+    unsafe { a72_flip(core.handle(), va, kind, user, out, base, at, len) }
+}
+
+/// By `a72_flip`. Where it is refused nothing may be written, and words that name nothing are told first of all.
+pub(super) fn flip(core: &Held, kind: u8, user: bool, va: u64, ram: &mut Ram) -> Ans {
+    let mut ask = |kind, user| {
+        let mut out = [UNWRITTEN; 3];
+        (
+            flip_into(core, va, kind, user, &mut out, ram.base, &mut ram.bytes),
+            out,
+        )
+    };
+    let unnamed = [ask(3, 0), ask(kind.into(), 2)];
+    if unnamed != [(number::NAMES_NOTHING, [UNWRITTEN; 3]); 2] {
+        return Ans::Panic;
+    }
+    match ask(kind.into(), user.into()) {
+        (number::DONE, [1, pa, bit @ 0..64]) => Ans::Bit(pa, bit as u8),
+        (number::DONE, [0, 0, 0]) => Ans::None,
+        (n @ 1..=number::LAST_CHECK, [UNWRITTEN, UNWRITTEN, UNWRITTEN]) => Ans::Number(n as u8),
+        _ => Ans::Panic,
+    }
+}
+
+/// The answer by `a72_windows` or `a72_flip`, where `a72_step` said done, or refused alike.
 pub(super) fn looked(said: Ans, answer: Ans) -> Ans {
     match (said, answer) {
         (Ans::Ok, Ans::Number(1 | 2)) => Ans::Panic,

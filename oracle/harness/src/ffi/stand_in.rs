@@ -70,6 +70,10 @@ pub unsafe fn a72_step(
     let answer = match op {
         // What a list comes to is the other function's, its refusals too.
         Op::Windows if refusal(&Op::Census(0, 0), core.regs.level, &window, |_| true).is_none() => Ans::Ok,
+        Op::Flip(..) => match core.step(&op, &mut window) {
+            n @ Ans::Number(_) => n,
+            _ => Ans::Ok,
+        },
         _ => core.step(&op, &mut window),
     };
     if window.writes != 0 {
@@ -130,5 +134,32 @@ pub unsafe fn a72_windows(
         Ans::None => *out = [0; 3],
         other => unreachable!("a list of windows gives no {other}"),
     }
+    DONE
+}
+
+/// # Safety
+/// As above.
+#[allow(clippy::too_many_arguments)]
+pub unsafe fn a72_flip(
+    core: *mut Handle,
+    va: u64,
+    kind: u64,
+    user: u64,
+    out: *mut [u64; 3],
+    base: u64,
+    ram: *mut u8,
+    ram_bytes: usize,
+) -> u64 {
+    let mut window = Ram::of(base, from_raw_parts(ram, ram_bytes).to_vec());
+    let op = match decode(&[15, kind, user, va, 0, 0, 0, 0]) {
+        Some(Line::Op(op)) => op,
+        _ => return NAMES_NOTHING,
+    };
+    *out = match held(words(core)).step(&op, &mut window) {
+        Ans::Number(n) => return n.into(),
+        Ans::Bit(pa, bit) => [1, pa, bit.into()],
+        Ans::None => [0; 3],
+        other => unreachable!("a flipped bit gives no {other}"),
+    };
     DONE
 }

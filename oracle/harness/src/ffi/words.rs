@@ -80,6 +80,7 @@ fn operation(op: &Op) -> Vec<u64> {
         Abort(e) => [&[12][..], &exception(&e)].concat(),
         Census(first, pages) => vec![13, first, pages],
         Windows => vec![14],
+        Flip(k, user, va) => vec![15, k.into(), user.into(), va],
         LeafAsid => vec![20],
         LeafOn(r) => vec![21, r.into()],
         LeafUntag(r, va) => vec![22, r.into(), va],
@@ -98,7 +99,7 @@ fn operation(op: &Op) -> Vec<u64> {
     }
 }
 
-/// `None` where the code, an exception, a mark, a kind or a regime is none of those named.
+/// `None` where the code, an exception, a mark, a kind, a view or a regime is none of those named.
 pub fn decode(w: &[u64; 8]) -> Option<Line> {
     Some(match w[0] {
         60 => Line::Fresh,
@@ -134,6 +135,7 @@ fn operation_of(w: &[u64; 8]) -> Option<Op> {
         12 => Abort(exception_of(&w[1..])?),
         13 => Census(w[1], w[2]),
         14 => Windows,
+        15 => Flip(kind()?, flag(w[2])?, w[3]),
         20 => LeafAsid,
         21 => LeafOn(regime()?),
         22 => LeafUntag(regime()?, w[2]),
@@ -175,6 +177,7 @@ pub fn encode_answer(a: &Ans) -> [u64; 4] {
             [11, n, digest, 0]
         }
         Ans::Page(w, p, s) => [12, w, p, s.into()],
+        Ans::Bit(a, b) => [13, a, b.into(), 0],
         Ans::Panic => [u64::MAX, 0, 0, 0],
     }
 }
@@ -202,6 +205,7 @@ pub fn decode_answer(w: &[u64; 4]) -> Ans {
         9 => Ans::Data(w[1], w[3] != 0, w[2] as u8),
         10 => Ans::Insn(w[1], w[2] as u8),
         12 => Ans::Page(w[1], w[2], w[3] as u8),
+        13 => Ans::Bit(w[1], w[2] as u8),
         _ => Ans::Panic,
     }
 }

@@ -249,6 +249,7 @@ impl Generator {
             self.op(Op::Census(u64::MAX, pages));
         }
         self.glimpse_refused();
+        self.flip_refused();
         self.op(Op::PokeLevel(self.level));
     }
 }

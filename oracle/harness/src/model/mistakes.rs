@@ -96,12 +96,31 @@ pub enum Mistake {
     WindowsOutsideFaults,
     WindowsFlatUntested,
     WindowsAlwaysEl1,
+    FlipBit1Untried,
+    FlipHighestBit,
+    FlipLastDescriptor,
+    FlipNotTakenBack,
+    FlipFaultsAreOne,
+    FlipAlwaysEl1,
+    FlipFromCache,
+    FlipBigEndian,
+    FlipBytesDown,
+    FlipTableAddress,
+    FlipVirtualAddress,
+    FlipCutCounted,
+    FlipKeepsTag,
+    FlipOffWalks,
+    FlipOnlyClears,
+    FlipOnlySets,
+    FlipRepeatedPassedOver,
+    FlipOutsideIsNone,
+    FlipCountsWalks,
 }
 
 use Mistake::*;
 
 /// Each mistake with what it does, by number from 1.
-pub const MISTAKES: [(Mistake, &str); 94] = [
+pub const MISTAKES: [(Mistake, &str); 113] = [
     (FlagBeforeSize, "access flag judged before the output size"),
     (
         PageDropsOnePage,
@@ -268,4 +287,47 @@ pub const MISTAKES: [(Mistake, &str); 94] = [
     (WindowsOutsideFaults, "a page of windows outside RAM faults"),
     (WindowsFlatUntested, "flat pages of windows as they are given"),
     (WindowsAlwaysEl1, "windows are EL1&0's at every level"),
+    (
+        FlipBit1Untried,
+        "a flipped bit: of each descriptor bit 0 alone tried",
+    ),
+    (FlipHighestBit, "a flipped bit: the highest of a descriptor"),
+    (
+        FlipLastDescriptor,
+        "a flipped bit: of the last descriptor that has one",
+    ),
+    (FlipNotTakenBack, "a flipped bit is not taken back"),
+    (FlipFaultsAreOne, "a flipped bit: any two faults are one answer"),
+    (FlipAlwaysEl1, "a flipped bit is EL1&0's at every level"),
+    (FlipFromCache, "a flipped bit: a live entry answers"),
+    (FlipBigEndian, "a flipped bit is numbered by the big-endian word"),
+    (
+        FlipBytesDown,
+        "a flipped bit: a descriptor's last byte tried first",
+    ),
+    (
+        FlipTableAddress,
+        "a flipped bit: the address of the descriptor's table",
+    ),
+    (
+        FlipVirtualAddress,
+        "a flipped bit: the address that is translated",
+    ),
+    (
+        FlipCutCounted,
+        "a flipped bit of a descriptor that the window cuts",
+    ),
+    (FlipKeepsTag, "a flipped bit: the address keeps its tag"),
+    (FlipOffWalks, "a flipped bit: walked with stage 1 off"),
+    (FlipOnlyClears, "a flipped bit: bits are only cleared"),
+    (FlipOnlySets, "a flipped bit: bits are only set"),
+    (
+        FlipRepeatedPassedOver,
+        "a flipped bit: a descriptor that is read twice passed over",
+    ),
+    (
+        FlipOutsideIsNone,
+        "a flipped bit: none where a descriptor is outside RAM",
+    ),
+    (FlipCountsWalks, "a flipped bit moves the counter of walks"),
 ];

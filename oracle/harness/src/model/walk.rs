@@ -156,13 +156,31 @@ impl Regs {
 
     /// A walk; the descriptors that it reads are added to `reads`, one that lies outside RAM too.
     pub fn walk_counting(&self, ram: &Ram, regime: u32, va: u64, reads: &mut u64) -> Result<Leaf, u8> {
+        let (mut asked, mut failed) = (0, 0);
+        let walked = self.walk_through(regime, va, |at| {
+            let d = ram.get(at, 8);
+            asked += 1;
+            failed += d.is_none() as u64;
+            d
+        });
+        *reads += asked;
+        if self.makes(Mistake::ReadsFailedLeftOut) {
+            *reads -= failed;
+        }
+        *reads += (asked == 0 && self.makes(Mistake::ReadsRefusedOne)) as u64;
+        walked
+    }
+
+    /// A walk of which each descriptor is what `read` gives of its address, `None` outside RAM.
+    pub fn walk_through(
+        &self,
+        regime: u32,
+        va: u64,
+        mut read: impl FnMut(u64) -> Option<u64>,
+    ) -> Result<Leaf, u8> {
         let s = self.shape(regime, va);
-        let mut refused = |status| {
-            *reads += self.makes(Mistake::ReadsRefusedOne) as u64;
-            Err(status)
-        };
         if !s.in_range(va) || s.closed {
-            return refused(0x04);
+            return Err(0x04);
         }
         // The first table resolves what the levels below leave over.
         let above = s.input - s.granule;
@@ -171,15 +189,13 @@ impl Regs {
         let bytes = 8u64 << width;
         let mut table = s.ttbr % (1 << 48) / bytes * bytes;
         if s.too_large(table) {
-            return refused(0x00);
+            return Err(0x00);
         }
         let mut limits = Limits::default();
         for level in 4 - levels..4 {
             let index = (va >> s.lsb(level)) % (1 << width);
             let n = level as u8;
-            let d = ram.get(table + 8 * index, 8);
-            *reads += (d.is_some() || !self.makes(Mistake::ReadsFailedLeftOut)) as u64;
-            let d = d.ok_or(0x14 + n)?;
+            let d = read(table + 8 * index).ok_or(0x14 + n)?;
             if !bit(d, 0) {
                 return Err(0x04 + n);
             }
@@ -246,6 +262,24 @@ impl Regs {
         set(el0, user_write, user_fetch) + 8 * set(true, write, !barred)
     }
 
+    /// What a translation of this kind answers by these rights with nothing cached, where each descriptor is what `read`
+    /// gives of its address.
+    pub fn fresh_answer(
+        &self,
+        (regime, kind, user): (u32, u8, bool),
+        va: u64,
+        read: impl FnMut(u64) -> Option<u64>,
+    ) -> Result<u64, u8> {
+        if !self.on(regime) && !self.makes(Mistake::FlipOffWalks) {
+            return self.flat(regime, va);
+        }
+        let leaf = self.walk_through(regime, self.untag(regime, va), read)?;
+        if leaf.perms & needed(kind, user) == 0 {
+            return Err(0x0C + leaf.level);
+        }
+        Ok(leaf.oa / 4096 * 4096 + va % 4096)
+    }
+
     /// Whether an access of this kind is judged by EL0's rights.
     pub fn user(&self, kind: u8) -> bool {
         let marked = self.mark && (kind != 4 || self.makes(Mistake::FetchUnprivileged));
@@ -254,14 +288,7 @@ impl Regs {
 
     /// A translation's answer by the core without a cache.
     pub fn translation_without_cache(&self, ram: &Ram, kind: u8, va: u64) -> Result<u64, u8> {
-        let regime = self.regime();
-        if !self.on(regime) {
-            return self.flat(regime, va);
-        }
-        let leaf = self.walk(ram, regime, self.untag(regime, va))?;
-        if leaf.perms & needed(kind, self.user(kind)) == 0 {
-            return Err(0x0C + leaf.level);
-        }
-        Ok(leaf.oa / 4096 * 4096 + va % 4096)
+        let what = (self.regime(), kind, self.user(kind));
+        self.fresh_answer(what, va, |at| ram.get(at, 8))
     }
 }

@@ -1,5 +1,5 @@
 //! The recorded files: which there are, and whether they are what this program makes now.
-use super::{aborts, ranges, record, splits, statuses, tlbi, Shown};
+use super::{aborts, bits, ranges, record, splits, statuses, tlbi, Shown};
 use crate::generate::{trace, Style};
 use crate::op::Line;
 use std::fmt::Write;
@@ -56,6 +56,11 @@ fn made() -> Vec<(String, String)> {
             "aborts.trace",
             "every abort entry, from every level, under every routing",
             aborts::lines(),
+        ),
+        (
+            "bits.trace",
+            "flipped bits of walks that end at any level by a descriptor of each kind, both granules, every range",
+            bits::lines(),
         ),
         (
             "ranges.trace",
