@@ -1,6 +1,6 @@
 #!/bin/sh
 # Writes ../docs/BENCHMARKS.md: builds `bench` with the library lib$A72_NAME.a of the folder $A72_LIB, counts instructions, times all
-# cases and reads the frames; about two minutes. NOTE is a sentence about the run.
+# cases and reads the frames; some minutes. NOTE is a sentence about the run.
 #   A72_LIB=/absolute/path/target/staticlib A72_NAME=a72abi ./benchmarks.sh
 set -eu
 cd "$(dirname "$0")"
@@ -12,10 +12,7 @@ bench=target-rattle/release/bench
 ./ir.sh $bench "$work/counts" >/dev/null
 $bench time 900 --counts "$work/counts" >"$work/table"
 SIDE=plain ./ir.sh $bench "$work/plain-counts" >/dev/null
-# For the plain core both sides are built so that no jump lies over a boundary of 32 bytes, and each innermost loop begins at one of 64: place decides little.
-RUSTFLAGS="-C llvm-args=-x86-branches-within-32B-boundaries -C llvm-args=-x86-experimental-pref-innermost-loop-alignment=6" \
-    cargo build --offline --release -j1 --target-dir target/placed --bin bench
-target/placed/release/bench time 900 --plain --counts "$work/plain-counts" >"$work/plain-table"
+./links.sh 80 --counts "$work/plain-counts" >"$work/plain-table"
 ./stack.sh "$A72_LIB/lib$A72_NAME.a" >"$work/frames"
 
 # FIELD of the line of `frames` where it is the greatest: bytes, then the function.
@@ -39,7 +36,7 @@ On the Rust's side pimu's own function, behind one call that is not inlined, wit
 a load or store of the size). The checks 1 to 7 are not made there: pimu has none; of windows the list is read, and so 9 is. A register write is `write_reg` with the scope's
 rule. On the library's side the exported function on a core behind its handle, with its checks.
 
-So the library does more: it checks level, window, kind, size and range, and takes and gives numbers. For translations, loads, stores, censuses and lists of windows a third column has
+So the library does more: it checks level, window, kind, size and range, and takes and gives numbers. For translations, loads, stores, censuses, lists of windows and flipped bits a third column has
 the *checked Rust*: the same function of pimu behind the library's own signature, with the same checks before it (`oracle/harness/src/bench/checked.rs`).
 That is what a caller of the Rust would have to write for the same promise, and the ratio beside it is that of equal work. The bars are held to
 the bare function all the same.
@@ -59,11 +56,12 @@ end. One argument of each call alternates between two values, so that a case sta
 | lent | the translations of the same names again, under the bars of a core that was lent by reference inside the library |
 | census | 65,536 pages, from two addresses of one page; the Rust's side is a loop over `stage1_on`, `untag` and `walk` page by page into 129 counts; times and instructions are those of one page |
 | windows | 64 windows of sixteen pages, 1,024 pages by three tables and 516,096 comparisons; all apart, or the last window the first one again; sixteen windows of one page; each list there and turned round. The Rust's side is a list's bytes, `stage1_on`, `untag` and `walk` page by page and the permission bit, and then each pair in the same form as here, a page looked for up to a window's end (`oracle/harness/src/rust/windows.rs`): pimu has no such function. By std's `contains`, which ends at the page, it took 283 µs in a build in which the library took 188, and 158 in one in which no jump lies over a boundary of 32 bytes |
+| flip | two addresses of one page, a privileged read. None: a zero descriptor at level 0, of which all 64 bits are tried, 65 walks of one descriptor. Bit 0: a page by three tables, walked once, and once more without the first. The Rust's side is `stage1_on`, `untag` and `walk` and the permission bit around a bit that is flipped in RAM and back, over the descriptors that pimu's walk read (`oracle/harness/src/rust/flip.rs`): pimu has no such function |
 | frames | a total of hours, and the largest of all; the Rust's side is one function of rate and total, by a product of 128 bits, divided, and what that leaves (`bench/rust.rs`): pimu has no such function. A function of 48,000 a second alone is compiled to a division of 64 bits: 1.94 ns in a run in which the library took 2.58 |
 | register write | TCR_EL1 between two values; TTBR0_EL1 between two ASIDs; VBAR_EL1; SCTLR_EL1 to what it is |
 
 The bars: hint hits 1.05, on `fetch_pa` 1.5; entry hits of translate, data_pa and fetch_pa 1.1, of load, store and fetch 1.15; walks and faults of translations 1.05; stage 1 off 1.15; split accesses,
-TLBI, register writes and settings 1.2; DC ZVA 1.0; abort entry 1.6; the census 0.95; sample frames 1.0; lists of 64 windows 1.1; on a lent core hint hit 1.3, entry hit 1.2, walks 0.95. The other cases have none. Until November 2026 hint hits
+TLBI, register writes and settings 1.2; DC ZVA 1.0; abort entry 1.6; the census 0.95; sample frames 1.0; lists of 64 windows 1.1; flipped bits 1.1, and 10 µs where none is found; on a lent core hint hit 1.3, entry hit 1.2, walks 0.95. The other cases have none. Until November 2026 hint hits
 had 0.95 (translations) and 1.0 (loads and stores), entry hits of translations 1.05, a lent core 1.5, 1.8 and 1.5, and fetch, data_pa, DC ZVA, abort entry and settings none.
 
 ## How it was run

@@ -388,14 +388,15 @@ impl Tlb {
     /// The physical page of the data hint of this key, if there is one.
     #[inline(always)]
     pub(super) fn hinted(&self, key: u64, kind: Kind) -> Option<u64> {
-        let hint = self.core.hint(data_slot(key, kind))?;
-        (self.hints && hint.key == key).then_some(hint.pa)
+        let page = self.core.hint_page(data_slot(key, kind), key)?;
+        self.hints.then_some(page)
     }
 
     /// The physical page of the fetch hint, if it is of this page and level.
     #[inline(always)]
     pub(super) fn fetch_hinted(&self, va: u64, el: u32) -> Option<u64> {
         let hint = self.core.fetch_hint()?;
-        (self.hints && hint.page == va & !0xFFF && u32::from(hint.level) == el).then_some(hint.pa)
+        let differs = (hint.page ^ (va & !0xFFF)) | u64::from(u32::from(hint.level) ^ el);
+        (self.hints && differs == 0).then_some(hint.pa)
     }
 }
