@@ -38,8 +38,15 @@ def answers(crate, function):
     if listed:
         found = [law for law in re.findall(r"[\w-]+", listed[1]) if law not in HANDED]
         stated = dict(functions(crate))[function]
-        laws |= {clause: [law] for clause, law in zip(stated, found)} if len(found) == len(stated) else {TOGETHER: found}
+        laws |= one_each(stated, found) if len(found) == len(stated) else {TOGETHER: found}
     return using(crate, function) | {clause: [w for w in found if w not in HANDED] or found for clause, found in laws.items()}
+
+
+def one_each(stated, found):
+    """A law for each clause: that of its name, and of the others the next."""
+    own = {clause: law for clause in stated for law in found if law.replace("-", "_") == clause}
+    others = iter([law for law in found if law not in own.values()])
+    return {clause: [own[clause] if clause in own else next(others)] for clause in stated}
 
 
 def using(crate, function):
@@ -60,7 +67,9 @@ def cell(stated, laws):
         if named:
             parts.append(f"`{laws[clause][0]}`" if named in ([clause], [""]) or not clause else f"{clause}: " + ", ".join(f"`{law}`" for law in laws[clause]))
     by = ("found by " + ", ".join(f"`{law}`" for law in together)) if together else "found"
-    return "; ".join(parts + ([", ".join(alone) + f": {by}"] if alone else []))
+    if alone:
+        parts.append(by if alone == [""] else ", ".join(alone) + f": {by}")
+    return "; ".join(parts)
 
 
 def rows(text):

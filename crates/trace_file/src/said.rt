@@ -1,6 +1,7 @@
 //! The answer of an operation by named fields.
 use cpu::call::Reply;
 use exception::kind::{Exception, Stop};
+use flip::FlippedBit;
 use json_text::{Count, Hex, Shown};
 use manual_words::status::Status;
 use serde::{Serialize, Serializer};
@@ -65,6 +66,11 @@ enum Said {
         status: Hex,
         fault: Shown<Status>,
     },
+    Bit {
+        pa: Hex,
+        bit: u8,
+    },
+    NoBit,
 }
 
 fn words(status: u8) -> (Hex, Shown<Status>) {
@@ -145,6 +151,8 @@ fn of_answer(answer: Answer) -> Said {
                 fault,
             }
         }
+        Answer::Flipped(Some(FlippedBit { pa, bit })) => Said::Bit { pa: Hex(pa), bit },
+        Answer::Flipped(None) => Said::NoBit,
     }
 }
 
