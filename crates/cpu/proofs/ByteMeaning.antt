@@ -47,16 +47,14 @@ split-digit : (base : ℕ) (ram : List ℕ) (p : Pages) (s n i : ℕ) → ((k : 
     → split_value base ram p s n / 256 ^ i % 256 ≡ byte_in base ram (byte_at p (s + i))
 unfolding split_value
 split-digit base ram p s zero i small h = absurd (omega arith)
-split-digit base ram p s (suc n) zero small h =
-    let b = small-in base ram (byte_at p s) small in
-    let z : s + 0 ≡ s = omega arith in
-    rw (z, div-one (split_value base ram p (s + 1) n * 256 + byte_in base ram (byte_at p s))) (omega arith)
+split-digit base ram p s (suc n) zero small h = grind (arith, small-in base ram (byte_at p s) small, div-one)
 split-digit base ram p s (suc n) (suc i) small h =
-    let b = small-in base ram (byte_at p s) small in
-    let e : s + suc i ≡ s + 1 + i = omega arith in
-    let q : (split_value base ram p (s + 1) n * 256 + byte_in base ram (byte_at p s)) / 256 ≡ split_value base ram p (s + 1) n = omega arith in
-    rw (digit-next (split_value base ram p (s + 1) n * 256 + byte_in base ram (byte_at p s)) i, q, e)
-    (split-digit base ram p (s + 1) n i small (omega arith))
+    grind (
+      arith,
+      small-in base ram (byte_at p s) small,
+      digit-next (split_value base ram p (s + 1) n * 256 + byte_in base ram (byte_at p s)) i,
+      split-digit base ram p (s + 1) n i small,
+    )
 
 -- after a split store, the byte at byte i's place is byte i of the value, unless a later byte has the same place
 split-byte : (base : ℕ) (p : Pages) (v s n i : ℕ) (ram : List ℕ) → i < n → within base (length ram) 1 (byte_at p (s + i)) ≡ true
@@ -122,14 +120,7 @@ module _ (base : ℕ) (ram : List ℕ) (n i : ℕ) (window : base + length ram �
       → byte_in base (store_ram base ram place n v) (wrap (address_in place i)) ≡ v / 256 ^ i % 256
   unfolding store_ram
   store-digit v (Whole pa) e last =
-      let l = whole-low pa e in
-      let k = whole-high pa e in
-      let long : length (stored base ram n pa v) ≡ length ram = stored-length base ram n pa v in
-      let x : pa + i - base ≡ pa - base + i = omega arith in
-      ap (byte_in base (stored base ram n pa v)) (whole-at pa e)
-      ∙ there-in base (stored base ram n pa v) (pa + i) (omega arith) (omega arith)
-      ∙ ap (λ (j : ℕ). slice_index (stored base ram n pa v) j) x
-      ∙ stored-byte base ram n pa v i l k h
+      grind (arith, whole-low pa e, whole-high pa e, whole-at pa e, stored-length base ram n pa v, there-in base (stored base ram n pa v) (pa + i), stored-byte base ram n pa v i)
   store-digit v (Split p) e last =
       let z : 0 + i ≡ i = zero-add i in
       let all : bytes_before (verdict_of base (length ram) (Split p) n) n ≡ n = ap (λ (d : Verdict). bytes_before d n) e in

@@ -1,9 +1,9 @@
 -- Laws of bytes moved: RAM keeps its length, a store changes its own bytes only, and a split value is a plain one where the pages lie side by side.
 use Rattle.std.proofs.lemmas.Grind.{common_steps}
-use Rattle.std.specs.Prelude.{if◌then◌else◌, ◌≡◌, ℕ, zero, suc, ◌+◌, ◌-◌, ◌/◌, ◌<◌, ◌≤◌, Bool, true, false, ◌&&◌, List, ◌++◌, length, take, drop, ◌≢◌}
-use Rattle.std.specs.Prelude.{nat_le, nat_lt, slice_index, refl, Err}
-use Rattle.std.proofs.Common.{sym, ap, ◌∙◌, arith, leb-true, leb-false, ltb-true, ltb-false, length-take-le, get_or-append-add, get_or-drop}
-use Rattle.word.specs.Ram.{bytes_of, written, stored}
+use Rattle.std.specs.Prelude.{◌≡◌, ℕ, zero, suc, ◌+◌, ◌-◌, ◌/◌, ◌<◌, ◌≤◌, List, length, ◌≢◌}
+use Rattle.std.specs.Prelude.{slice_index, refl, Err}
+use Rattle.std.proofs.Common.{◌∙◌, arith, leb-true, length-take-le}
+use Rattle.word.specs.Ram.{written, stored}
 use Rattle.word.proofs.RamLaws.{length-bytes}
 use Rattle.cpu.specs.Place.{byte_at, first_outside, verdict_of, bytes_before, address_in}
 use Rattle.cpu.proofs.PlaceLaws.{before-le}
@@ -21,8 +21,7 @@ stored-length base ram n pa v = grind (arith, leb-true, length-append, length-ta
 pub split-length : (base : ℕ) (p : Pages) (v i n : ℕ) (ram : List ℕ) → length (split_stored base p v i n ram) ≡ length ram
 unfolding split_stored
 split-length base p v i zero ram = refl
-split-length base p v i (suc n) ram =
-    split-length base p (v / 256) (i + 1) n (stored base ram 1 (byte_at p i) v) ∙ stored-length base ram 1 (byte_at p i) v
+split-length base p v i (suc n) ram = grind (arith, split-length base p (v / 256) (i + 1) n, stored-length)
 
 pub store_length : (base : ℕ) (ram : List ℕ) (place : Place) (n v : ℕ) → length (store_ram base ram place n v) ≡ length ram
 unfolding store_ram
@@ -39,43 +38,15 @@ module _ (ram : List ℕ) (at n v k : ℕ) (fits : at + n ≤ length ram) where
   below h = grind (arith, common_steps)
 
   above : at + n ≤ k → slice_index (written ram at n v) k ≡ slice_index ram k
-  above h =
-      let l : length (take at ram) ≡ at = length-take-le at ram (omega arith) in
-      let m : length (bytes_of n v) ≡ n = length-bytes n v in
-      let j = k - (at + n) in
-      let q : k ≡ at + (n + j) = omega arith in
-      let r : at + (n + j) ≡ k = omega arith in
-      ap (λ (i : ℕ). slice_index (written ram at n v) i) q
-      ∙ ap (λ (i : ℕ). slice_index (written ram at n v) (i + (n + j))) (sym l)
-      ∙ get_or-append-add (take at ram) (bytes_of n v ++ drop n (drop at ram)) (n + j) 0
-      ∙ ap (λ (i : ℕ). slice_index (bytes_of n v ++ drop n (drop at ram)) (i + j)) (sym m)
-      ∙ get_or-append-add (bytes_of n v) (drop n (drop at ram)) j 0
-      ∙ get_or-drop n (drop at ram) j 0
-      ∙ get_or-drop at ram (n + j) 0
-      ∙ ap (λ (i : ℕ). slice_index ram i) r
+  above h = grind (arith, common_steps, length-bytes)
 
 -- a byte of RAM that is none of its n bytes is left as it was
 pub stored-leaves : (base : ℕ) (ram : List ℕ) (n pa v k : ℕ) → ((i : ℕ) → i < n → base + k ≢ pa + i)
     → slice_index (stored base ram n pa v) k ≡ slice_index ram k
 unfolding stored
-stored-leaves base ram n pa v k none = go (nat_le base pa) (nat_le (pa + n) (base + length ram)) refl refl
-  where
-    within-it : base ≤ pa → pa + n ≤ base + length ram → slice_index (written ram (pa - base) n v) k ≡ slice_index ram k
-    within-it h e = side (nat_lt k (pa - base)) (nat_le (pa - base + n) k) refl refl
-      where
-        side : (a b : Bool) → nat_lt k (pa - base) ≡ a → nat_le (pa - base + n) k ≡ b → slice_index (written ram (pa - base) n v) k ≡ slice_index ram k
-        side true b ea eb = below ram (pa - base) n v k (omega arith) (ltb-true _ _ ea)
-        side false true ea eb = above ram (pa - base) n v k (omega arith) (leb-true _ _ eb)
-        side false false ea eb =
-            let l : pa - base ≤ k = ltb-false _ _ ea in
-            let m : k < pa - base + n = leb-false _ _ eb in
-            absurd (none (k - (pa - base)) (omega arith) (omega arith))
-
-    go : (a b : Bool) → nat_le base pa ≡ a → nat_le (pa + n) (base + length ram) ≡ b
-        → slice_index (if a && b then written ram (pa - base) n v else ram) k ≡ slice_index ram k
-    go true true ea eb = within-it (leb-true _ _ ea) (leb-true _ _ eb)
-    go true false ea eb = refl
-    go false b ea eb = refl
+stored-leaves base ram n pa v k none =
+    let within = λ (h : pa - base ≤ k) (l : k < pa - base + n). none (k - (pa - base)) (omega arith) in
+    grind (arith, within, below ram (pa - base) n v k, above ram (pa - base) n v k)
 
 pub split-leaves : (base : ℕ) (p : Pages) (v s n k : ℕ) (ram : List ℕ) → ((i : ℕ) → s ≤ i → i < s + n → base + k ≢ byte_at p i)
     → slice_index (split_stored base p v s n ram) k ≡ slice_index ram k

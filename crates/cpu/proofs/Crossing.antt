@@ -46,31 +46,15 @@ module _ (base len : ℕ) (p : Pages) (n : ℕ) where
   judged-at i h out before = go (first_outside base len p 0 n) refl
     where
       go : (d : Verdict) → first_outside base len p 0 n ≡ d → d ≡ Err (outside_at i (byte_at p i))
-      go (Ok x) e = absurd (never (lies i) (all-inside base len p 0 n e i (omega arith) (omega arith)) out)
-      go (Err o) e =
-          let l = lowest base len p 0 n o.index o.pa e in
-          let there : lies o.index ≡ false = ap (within base len 1) (sym l.at) ∙ l.out in
-          side l.at there (l.before i) (nat_lt i o.index) refl (nat_lt o.index i) refl
-        where
-          side : o.pa ≡ byte_at p o.index → lies o.index ≡ false → (0 ≤ i → i < o.index → lies i ≡ true) → (a : Bool) → nat_lt i o.index ≡ a → (b : Bool)
-              → nat_lt o.index i ≡ b → ◌≡◌ {A = Verdict} (Err o) (Err (outside_at i (byte_at p i)))
-          side q there later true x b y = absurd (never (lies i) (later (omega arith) (ltb-true _ _ x)) out)
-          side q there later false x true y = absurd (never (lies o.index) (before o.index (ltb-true _ _ y)) there)
-          side q there later false x false y =
-              let u : o.index ≤ i = ltb-false _ _ x in
-              let v : i ≤ o.index = ltb-false _ _ y in
-              let same : o.index ≡ i = omega arith in
-              ap (outside o.index) q ∙ ap (λ (k : ℕ). outside k (byte_at p k)) same
+      go (Ok x) e = absurd (grind (arith, all-inside base len p 0 n e i))
+      go (Err o) e = let l = lowest base len p 0 n o.index o.pa e in grind (arith, l, l.before i, before o.index)
 
   pub judged-inside : ((j : ℕ) → j < n → lies j ≡ true) → first_outside base len p 0 n ≡ Ok tt
   judged-inside each = go (first_outside base len p 0 n) refl
     where
       go : (d : Verdict) → first_outside base len p 0 n ≡ d → d ≡ Ok tt
       go (Ok x) e = refl
-      go (Err o) e =
-          let l = lowest base len p 0 n o.index o.pa e in
-          let last : o.index < 0 + n = l.last in
-          absurd (never (lies o.index) (each o.index (omega arith)) (ap (within base len 1) (sym l.at) ∙ l.out))
+      go (Err o) e = let l = lowest base len p 0 n o.index o.pa e in absurd (grind (arith, l, each o.index))
 
 module _ (base len va n : ℕ) where
   -- THE FIRST PAGE FAULTS
@@ -135,18 +119,13 @@ module _ (base len va n : ℕ) where
             inr (past h (nat_lt (in_page va) i) refl)
           where
             past : in_page va ≤ i → (y : Bool) → nat_lt (in_page va) i ≡ y → HalfPast i f
-            past h true y =
-                let q : ◌≡◌ {A = Option Fault} (Some g) None = sym (half-faults (in_page va) (omega arith)) ∙ l.before (in_page va) (ltb-true _ _ y) in
-                let z : ◌≡◌ {A = ℕ} 0 1 = cc in
-                absurd (omega arith)
+            past h true y = absurd (grind (arith, half-faults, l.before (in_page va) (ltb-true _ _ y)))
             past h false y =
                 let k : i ≤ in_page va = ltb-false _ _ y in
-                let at : i ≡ in_page va = omega arith in
-                let q : ◌≡◌ {A = Option Fault} (Some g) (Some f) = sym (half-faults i h) ∙ l.here in
                 record {
-                  at = at;
+                  at = omega arith;
                   judged = judged-inside base len half (in_page va) (λ j u. meets-none _ (sym (half-meets j u) ∙ l.before j (omega arith)));
-                  met = cc;
+                  met = grind (arith, half-faults i h, l.here);
                 }
 
     at-part : (i : ℕ) → i ≡ in_page va → next_page va ≡ wrap (va + i)

@@ -93,7 +93,7 @@ module _ (base : ℕ) (p : Pages) (n i v : ℕ) (ram ys : List ℕ) (x : Verdict
 
     further : (d : Verdict) → first_outside base (length ram) p (i + 1) (n - (i + 1)) ≡ d → i < bytes_before d n
     further (Ok y) e = h
-    further (Err out) e = let l : i + 1 ≤ out.index = (lowest base (length ram) p (i + 1) (n - (i + 1)) out.index out.pa e).first in omega arith
+    further (Err out) e = grind (arith, lowest base (length ram) p (i + 1) (n - (i + 1)) out.index out.pa e)
 
     pub store_left : f ≡ true → split_stored base p (v / 256) (i + 1) (bytes_before x n - (i + 1)) zs ≡ ys
     unfolding split_stored

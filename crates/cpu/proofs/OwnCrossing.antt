@@ -1,5 +1,5 @@
 -- The lowest failing byte decides, by each byte's own address.
-use Rattle.std.specs.Prelude.{nat_lt, Option, Ok, Err, unwrap_or}
+use Rattle.std.specs.Prelude.{nat_lt, Option, unwrap_or}
 use Rattle.std.proofs.Common.{◌≡◌, ℕ, ◌+◌, ◌-◌, ◌/◌, ◌%◌, ◌<◌, ◌≤◌, Bool, true, false, List, length, sym, refl, ap, ◌∙◌, arith, ltb-true, ltb-false}
 use Rattle.word.specs.Ram.{word_at}
 use Rattle.fault.specs.declared.Fault.{Fault}
@@ -55,18 +55,12 @@ module _ (c : Core) (base : ℕ) (ram : List ℕ) (va n : ℕ) (kind : Kind) (re
   by-first : (x : Answer) → a ≡ x → (i : ℕ) → i < in_page va
       → (met_by base (length ram) (own_answer c (word_at base ram 8) va kind i) ≡ fails_at base (length ram) x i)
       × (found_by (own_answer c (word_at base ram 8) va kind i) ≡ lies_at x i)
-  by-first (Ok pa) e i h =
-      let own = own-here c base ram va n kind ready i pa e h in
-      (ap (met_by base (length ram)) own, ap found_by own)
-  by-first (Err f) e i h = (ap (met_by base (length ram)) (on-first (Err f) e i h), ap found_by (on-first (Err f) e i h))
+  by-first x e i h = grind (arith, own-here c base ram va n kind ready i, on-first x e i h)
 
   by-second : (x : Answer) → b ≡ x → (i : ℕ) → in_page va ≤ i → i < 8
       → (met_by base (length ram) (own_answer c (word_at base ram 8) va kind i) ≡ fails_at base (length ram) x (i - in_page va))
       × (found_by (own_answer c (word_at base ram 8) va kind i) ≡ lies_at x (i - in_page va))
-  by-second (Ok pa) e i h k =
-      let own = own-there c base ram va n kind ready i pa e h k in
-      (ap (met_by base (length ram)) own, ap found_by own)
-  by-second (Err f) e i h k = (ap (met_by base (length ram)) (on-second (Err f) e i h k), ap found_by (on-second (Err f) e i h k))
+  by-second x e i h k = grind (arith, own-there c base ram va n kind ready i, on-second x e i h k)
 
   each-byte : (i : ℕ) → i < n → (own_fails c base ram va kind i ≡ byte_fails base (length ram) va a b i) × (own_lies c base ram va kind i ≡ byte_lies va a b i)
   each-byte i h = go (nat_lt i (in_page va)) refl

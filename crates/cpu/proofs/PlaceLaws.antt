@@ -60,12 +60,7 @@ module _ (base len : ℕ) (p : Pages) where
   pub all-inside : (k n : ℕ) → first_outside base len p k n ≡ Ok tt → (j : ℕ) → k ≤ j → j < k + n → within base len 1 (byte_at p j) ≡ true
   unfolding first_outside
   all-inside k zero e j a b = absurd (omega arith)
-  all-inside k (suc n) e j a b = go (within base len 1 (byte_at p k)) refl e (λ q c. all-inside (k + 1) n q j c (omega arith))
-    where
-      go : (b : Bool) → within base len 1 (byte_at p k) ≡ b → here b k n ≡ Ok tt
-          → (first_outside base len p (k + 1) n ≡ Ok tt → k + 1 ≤ j → Fits j) → Fits j
-      go true t q later = from k j a t (later q)
-      go false t q later = let z : ◌≡◌ {A = ℕ} 0 1 = cc in absurd (omega arith)
+  all-inside k (suc n) e j a b = grind (arith, all-inside (k + 1) n)
 
   -- no more bytes come before the first outside than there are
   pub before-le : (n : ℕ) → bytes_before (first_outside base len p 0 n) n ≤ n

@@ -29,7 +29,7 @@ use Rattle.cpu.specs.Answers.{StoreAnswer}
 use Rattle.cpu.specs.Asks.{access_at, asks_by}
 use Rattle.cpu.specs.Bare.{Bare}
 use Rattle.cpu.specs.Core.{bank_now}
-use Rattle.cpu.specs.Memory.{write_of, ram_after_write}
+use Rattle.cpu.specs.Memory.{translate_of, write_of, ram_after_write}
 use Rattle.cpu.specs.OpLaws.{on_now, store as storing}
 use Rattle.cpu.specs.Place.{next_page, crosses}
 use Rattle.cpu.specs.Reads.{sum_read, SumsReads, FewReads, ZeroingFew, ZeroingByFirst, ZeroingFour}
@@ -193,23 +193,13 @@ module _ (c : Core) (base : ℕ) (ram : List ℕ) (va : ℕ) (w : Work) (well : 
 
   by-first : zero_work 8 c base ram va w ≡ first_store
   unfolding zero_work
-  by-first = go (write_of c base ram va 8).answer refl
-    where
-      one : va + 8 * 1 ≡ va + 8
-      one = omega arith
-
-      even : va % 8 ≡ 0
-      even = omega arith
-
-      go : (y : StoreAnswer) → (write_of c base ram va 8).answer ≡ y
-          → on_stored y (zero_work 7 (write_of c base ram va 8).core base (ram_after_write c base ram va 8 0) (wrap (va + 8)) first_store) first_store
-          ≡ first_store
-      go (Err s) e = refl
-      go (Ok y) e =
-          let d = one-done c base ram va even e in
-          let b = kept c base ram (storing va 8 0) in
-          rw one at (steady c base va d.0 line room first_store 7 1 (write_of c base ram va 8).core (ram_after_write c base ram va 8 0) (omega arith)
-          (ap (λ (z : Bare). z.privilege) b) (ap (λ (z : Bare). z.control) b) (begins c base ram va d.0 well line room d.1.0))
+  by-first =
+      let one : va + 8 * 1 ≡ va + 8 = omega arith in
+      let b = kept c base ram (storing va 8 0) in
+      let rest = λ (pa : ℕ) (e : (translate_of c (word_at base ram 8) va Write).answer ≡ Ok pa).
+      rw one at (steady c base va pa line room first_store 7 1 (write_of c base ram va 8).core (ram_after_write c base ram va 8 0) (omega arith)
+      (ap (λ (z : Bare). z.privilege) b) (ap (λ (z : Bare). z.control) b) (begins c base ram va pa well line room e)) in
+      grind (arith, rest, one-done c base ram va (omega arith))
 
 pub zeroing-by-first : ZeroingByFirst
 zeroing-by-first c base ram x w well small = grind (arith, by-first)

@@ -1,9 +1,9 @@
 -- A zeroing store by store: each store's own translation, what the stores before it leave, and what they do to RAM.
 use Rattle.cpu.specs.Results.{Located, Stored}
 use Rattle.std.specs.Prelude.{◌≡◌, ℕ, zero, suc, ◌+◌, ◌-◌, ◌*◌, ◌/◌, ◌%◌, ◌^◌, ◌<◌, ◌≤◌, Bool, true, false, List, length, ◌≢◌}
-use Rattle.std.specs.Prelude.{nat_le, nat_lt, slice_index, Ok, Err}
-use Rattle.std.proofs.Math.Path.{refl, sym, ap}
-use Rattle.std.proofs.Common.{◌∙◌, mod-eq_of_lt, pos_of_ne-zero, leb-true, leb-false, ltb-true, ltb-false}
+use Rattle.std.specs.Prelude.{slice_index, Ok, Err}
+use Rattle.std.proofs.Math.Path.{ap}
+use Rattle.std.proofs.Common.{◌∙◌, mod-eq_of_lt, pos_of_ne-zero}
 use Rattle.std.proofs.Math.Nat.{zero-div}
 use native.Mathlib.Omega.{arith}
 use Rattle.word.specs.Bits.{wrap}
@@ -12,7 +12,6 @@ use Rattle.word.proofs.RamLaws.{within_low, within-high, written_byte}
 use Rattle.tlb.specs.declared.access.Kind.TheVariants.{Write}
 use Rattle.fault.specs.declared.Fault.{Fault}
 use Rattle.tlb.specs.Answers.{Answer}
-use Rattle.cpu.specs.Answers.{StoreAnswer}
 use Rattle.exception.specs.declared.kind.Stop.{Stop}
 use Rattle.cpu.specs.Core.{after_access, bank_now}
 use Rattle.cpu.specs.Place.{crosses, verdict_of}
@@ -76,28 +75,15 @@ module _ (base : ℕ) (ram : List ℕ) (n pa : ℕ) where
 
   -- a zero byte stays zero
   pub zeros-stay : (k : ℕ) → slice_index ram k ≡ 0 → slice_index (stored base ram n pa 0) k ≡ 0
-  zeros-stay k z = go (within base (length ram) n pa) refl
-    where
-      go : (b : Bool) → within base (length ram) n pa ≡ b → slice_index (stored base ram n pa 0) k ≡ 0
-      go false w = unstored k w ∙ z
-      go true w = side (nat_le pa (base + k)) (nat_lt (base + k) (pa + n)) refl refl
-        where
-          l : base ≤ pa
-          l = within_low base (length ram) n pa w
-
-          side : (x y : Bool) → nat_le pa (base + k) ≡ x → nat_lt (base + k) (pa + n) ≡ y → slice_index (stored base ram n pa 0) k ≡ 0
-          side true true ex ey =
-              let a : pa ≤ base + k = leb-true _ _ ex in
-              let b : base + k < pa + n = ltb-true _ _ ey in
-              let low = l in
-              let here : pa + (base + k - pa) - base ≡ k = omega arith in
-              rw here at (zeros-there w (base + k - pa) (omega arith))
-          side true false ex ey =
-              let b : pa + n ≤ base + k = ltb-false _ _ ey in
-              stored-leaves base ram n pa 0 k (λ i h q. omega arith) ∙ z
-          side false y ex ey =
-              let a : base + k < pa = leb-false _ _ ex in
-              stored-leaves base ram n pa 0 k (λ i h q. omega arith) ∙ z
+  zeros-stay k z =
+      let none = λ (w : within base (length ram) n pa ≡ false). unstored k w ∙ z in
+      let away = λ (h : (i : ℕ) → i < n → base + k ≢ pa + i). stored-leaves base ram n pa 0 k h ∙ z in
+      let low : base + k < pa → slice_index (stored base ram n pa 0) k ≡ 0 = λ h. away (λ i l q. omega arith) in
+      let high : pa + n ≤ base + k → slice_index (stored base ram n pa 0) k ≡ 0 = λ h. away (λ i l q. omega arith) in
+      let here : pa ≤ base + k → base + k < pa + n → within base (length ram) n pa ≡ true → slice_index (stored base ram n pa 0) k ≡ 0
+      = λ a b w. let l = within_low base (length ram) n pa w in
+      let x : pa + (base + k - pa) - base ≡ k = omega arith in rw x at (zeros-there w (base + k - pa) (omega arith)) in
+      grind (arith, none, low, high, here)
 
 -- STORE AFTER STORE
 
@@ -138,7 +124,7 @@ pub store-va : (n va : ℕ) → va + 8 * n < 2 ^ 64 → store_va va n ≡ va + 8
 store-va zero va h = omega arith
 store-va (suc n) va h =
     let w : wrap (va + 8) ≡ va + 8 = mod-eq_of_lt (omega arith) in
-    ap (λ (x : ℕ). store_va x n) w ∙ store-va n (va + 8) (omega arith) ∙ omega arith
+    grind (arith, w, store-va n (va + 8))
 
 module _ (base : ℕ) where
   abbrev after : ℕ → Core → List ℕ → ℕ → Stored
@@ -152,52 +138,15 @@ module _ (base : ℕ) where
       → after (suc n) c ram va
       ≡ on_stored (after n c ram va).answer (write_of (after n c ram va).core base (left n c ram va) (store_va va n) 8) (after n c ram va)
   unfolding zero_of zero_ram
-  zero-last zero c ram va = go (write_of c base ram va 8).answer refl
-    where
-      go : (x : StoreAnswer) → (write_of c base ram va 8).answer ≡ x
-          → on_stored (write_of c base ram va 8).answer (done_with (write_of c base ram va 8).core) (write_of c base ram va 8) ≡ write_of c base ram va 8
-      go (Ok x) e =
-          ap (λ (y : StoreAnswer). on_stored y (done_with (write_of c base ram va 8).core) (write_of c base ram va 8)) e
-          ∙ (λ i. record { core = (write_of c base ram va 8).core; answer = sym e i })
-      go (Err s) e = rw e
-  zero-last (suc n) c ram va =
-      go (write_of c base ram va 8).answer refl (zero-last n (write_of c base ram va 8).core (ram_after_write c base ram va 8 0) (wrap (va + 8)))
-    where
-      go : (x : StoreAnswer) → (write_of c base ram va 8).answer ≡ x
-          → after (suc n) (write_of c base ram va 8).core (ram_after_write c base ram va 8 0) (wrap (va + 8))
-          ≡ on_stored (after n (write_of c base ram va 8).core (ram_after_write c base ram va 8 0) (wrap (va + 8))).answer
-          (write_of (after n (write_of c base ram va 8).core (ram_after_write c base ram va 8 0) (wrap (va + 8))).core base
-          (left n (write_of c base ram va 8).core (ram_after_write c base ram va 8 0) (wrap (va + 8))) (store_va (wrap (va + 8)) n) 8)
-          (after n (write_of c base ram va 8).core (ram_after_write c base ram va 8 0) (wrap (va + 8)))
-          → after (suc (suc n)) c ram va
-          ≡ on_stored (after (suc n) c ram va).answer
-          (write_of (after (suc n) c ram va).core base (left (suc n) c ram va) (store_va va (suc n)) 8) (after (suc n) c ram va)
-      go (Ok x) e ih = rw e ih
-      go (Err s) e ih = rw e
+  zero-last zero c ram va = grind arith
+  zero-last (suc n) c ram va = grind (arith, zero-last n (write_of c base ram va 8).core (ram_after_write c base ram va 8 0) (wrap (va + 8)))
 
   pub zero-ram-last : (n : ℕ) (c : Core) (ram : List ℕ) (va : ℕ)
       → left (suc n) c ram va
       ≡ on_stored (after n c ram va).answer (ram_after_write (after n c ram va).core base (left n c ram va) (store_va va n) 8 0) (left n c ram va)
   unfolding zero_of zero_ram
-  zero-ram-last zero c ram va = go (write_of c base ram va 8).answer
-    where
-      go : (x : StoreAnswer) → on_stored x (ram_after_write c base ram va 8 0) (ram_after_write c base ram va 8 0) ≡ ram_after_write c base ram va 8 0
-      go (Ok x) = refl
-      go (Err s) = refl
-  zero-ram-last (suc n) c ram va =
-      go (write_of c base ram va 8).answer refl (zero-ram-last n (write_of c base ram va 8).core (ram_after_write c base ram va 8 0) (wrap (va + 8)))
-    where
-      go : (x : StoreAnswer) → (write_of c base ram va 8).answer ≡ x
-          → left (suc n) (write_of c base ram va 8).core (ram_after_write c base ram va 8 0) (wrap (va + 8))
-          ≡ on_stored (after n (write_of c base ram va 8).core (ram_after_write c base ram va 8 0) (wrap (va + 8))).answer
-          (ram_after_write (after n (write_of c base ram va 8).core (ram_after_write c base ram va 8 0) (wrap (va + 8))).core base
-          (left n (write_of c base ram va 8).core (ram_after_write c base ram va 8 0) (wrap (va + 8))) (store_va (wrap (va + 8)) n) 8 0)
-          (left n (write_of c base ram va 8).core (ram_after_write c base ram va 8 0) (wrap (va + 8)))
-          → left (suc (suc n)) c ram va
-          ≡ on_stored (after (suc n) c ram va).answer
-          (ram_after_write (after (suc n) c ram va).core base (left (suc n) c ram va) (store_va va (suc n)) 8 0) (left (suc n) c ram va)
-      go (Ok x) e ih = rw e ih
-      go (Err s) e ih = rw e
+  zero-ram-last zero c ram va = grind arith
+  zero-ram-last (suc n) c ram va = grind (arith, zero-ram-last n (write_of c base ram va 8).core (ram_after_write c base ram va 8 0) (wrap (va + 8)))
 
   -- where n + 1 are done, n are, and the last is
   pub zero-done : (n : ℕ) (c : Core) (ram : List ℕ) (va : ℕ) → (after (suc n) c ram va).answer ≡ Ok tt

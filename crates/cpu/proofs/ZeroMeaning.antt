@@ -1,5 +1,4 @@
 -- A zeroing that is done leaves 64 zero bytes, and so does DC ZVA.
-use Rattle.cpu.specs.Results.{Stored}
 use Rattle.std.specs.Prelude.{◌≡◌, ℕ, zero, suc, ◌+◌, ◌-◌, ◌*◌, ◌/◌, ◌%◌, ◌^◌, ◌<◌, ◌≤◌, Bool, true, false, List, length, ◌≢◌, nat_lt, slice_index, Ok, Err}
 use Rattle.std.proofs.Math.Path.{refl, ap, subst}
 use Rattle.std.proofs.Common.{sym, ◌∙◌}
@@ -59,11 +58,7 @@ module _ (c : Core) (base : ℕ) (ram : List ℕ) (va : ℕ) (even : va % 8 ≡ 
   pub zero-length : (n : ℕ) → length (ram_at n) ≡ length ram
   unfolding zero_ram
   zero-length zero = refl
-  zero-length (suc n) = ap length (zero-ram-last base n c ram va) ∙ go (zero_of n c base ram va).answer ∙ zero-length n
-    where
-      go : (x : StoreAnswer) → length (on_stored x (ram_after_write (core_at n) base (ram_at n) (store_va va n) 8 0) (ram_at n)) ≡ length (ram_at n)
-      go (Ok x) = ram-length (core_at n) base (ram_at n) (storing (store_va va n) 8 0)
-      go (Err s) = refl
+  zero-length (suc n) = grind (arith, zero-ram-last base n c ram va, zero-length n, ram-length (core_at n) base (ram_at n) (storing (store_va va n) 8 0))
 
   module _ (n : ℕ) (room : va + 8 * suc n ≤ 2 ^ 64) where
     even-here : (va + 8 * n) % 8 ≡ 0
@@ -138,13 +133,8 @@ module _ (c : Core) (base : ℕ) (ram : List ℕ) (va : ℕ) where
   bare-kept : (n : ℕ) → bare_of (zero_of n c base ram va).core ≡ bare_of c
   unfolding zero_of
   bare-kept zero = refl
-  bare-kept (suc n) = ap (λ (r : Stored). bare_of r.core) (zero-last base n c ram va) ∙ go (zero_of n c base ram va).answer ∙ bare-kept n
-    where
-      go : (x : StoreAnswer)
-          → bare_of (on_stored x (write_of (zero_of n c base ram va).core base (zero_ram n c base ram va) (store_va va n) 8) (zero_of n c base ram va)).core
-          ≡ bare_of (zero_of n c base ram va).core
-      go (Ok x) = kept (zero_of n c base ram va).core base (zero_ram n c base ram va) (storing (store_va va n) 8 0)
-      go (Err s) = refl
+  bare-kept (suc n) =
+      grind (arith, zero-last base n c ram va, bare-kept n, kept (zero_of n c base ram va).core base (zero_ram n c base ram va) (storing (store_va va n) 8 0))
 
   -- where n stores are done, fewer are
   zero-fewer : (n m : ℕ) → m ≤ n → (zero_of n c base ram va).answer ≡ Ok tt → (zero_of m c base ram va).answer ≡ Ok tt

@@ -1,4 +1,4 @@
--- The numbers 1 to 7: docs/SCOPE.md, "Where each answer is given".
+-- The numbers 1 to 8: docs/SCOPE.md, "Where each answer is given".
 use Rattle.std.specs.Prelude.{if◌then◌else◌, ℕ, ◌+◌, ◌*◌, ◌^◌, Bool, true, false, not, ◌||◌, List, [], ◌∷◌, nat_lt, Option, Some, None, Result, Ok, Err}
 use Rattle.word.specs.Bits.{align_down}
 use Rattle.word.specs.Ram.{width_of}
@@ -83,6 +83,11 @@ number_of Check.Encoding = 4
 number_of Check.General = 5
 number_of Check.Key = 6
 number_of Check.Pages = 7
+number_of Check.Core = 8
+
+-- the place of the core that has a number, of four
+abbrev pub core_of : ℕ → Result ℕ Check
+core_of n = if nat_lt 3 n then Err Check.Core else Ok n
 
 -- the number of the check that is missed; 0 where none is
 abbrev pub number_missed : {A : Type 0} → Result A Check → ℕ

@@ -1,11 +1,14 @@
--- The checks 1 to 7 in numbers: docs/SCOPE.md's table said once more, row by row, at each bound and one beyond it.
-use Rattle.std.specs.Prelude.{◌≡◌, ℕ, true, List, [], ◌∷◌, map}
+-- The checks 1 to 8 in numbers: docs/SCOPE.md's table said once more, row by row, at each bound and one beyond it.
+use Rattle.std.specs.Prelude.{◌≡◌, ℕ, true, false, List, [], ◌∷◌, map}
 use Rattle.tlb.specs.declared.access.Kind.TheVariants.{Read}
 use Rattle.exception.specs.declared.kind.Exception.TheVariants as Exception
-use Rattle.cpu.specs.Check.{missed_of}
+use Rattle.cpu.specs.Check.{missed_of, core_of, number_missed}
+use Rattle.exception.specs.declared.kind.Stop.TheVariants as Stop
+use Rattle.cpu.specs.Replies.{refuses}
 use Rattle.cpu.specs.declared.call.Call.{Call}
 use Rattle.cpu.specs.declared.call.Call.TheVariants.{Translate, DataPa, FetchPa, Load, Store, Fetch, System, Register, Level, Mark, General}
 use Rattle.cpu.specs.declared.call.Call.TheVariants.{Abort, Census, Windows, Flip}
+use Rattle.cpu.specs.declared.call.Reply.TheVariants as Reply
 
 -- each call with all wrong that a check can find: what its caller handed over misses as many checks as it can
 abbrev pub wrong_calls : List Call
@@ -140,3 +143,25 @@ NamedKeys =
 abbrev pub OtherKeys : Type 0
 OtherKeys =
     numbers_of (map write (0 ∷ 0xC000 ∷ 0xC081 ∷ 0xE101 ∷ 0xE3A0 ∷ 0xC3A1 ∷ 0x1C080 ∷ 0xFFFFFFFF ∷ [])) ≡ (6 ∷ 6 ∷ 6 ∷ 6 ∷ 6 ∷ 6 ∷ 6 ∷ 6 ∷ [])
+
+-- check 8, by a core's number of four
+abbrev pub CoreRows : Type 0
+CoreRows =
+    map (λ (n : ℕ). number_missed (core_of n)) (0 ∷ 1 ∷ 2 ∷ 3 ∷ 4 ∷ 7 ∷ 0x100 ∷ 0xFFFFFFFFFFFFFFFF ∷ [])
+    ≡ (0 ∷ 0 ∷ 0 ∷ 0 ∷ 8 ∷ 8 ∷ 8 ∷ 8 ∷ [])
+
+-- which replies refuse: of the exceptions Undefined alone
+abbrev pub RefusalRows : Type 0
+RefusalRows =
+    map refuses
+    (Reply.Refused 1
+    ∷ Reply.Refused 8
+    ∷ Reply.Stopped Stop.Unimplemented
+    ∷ Reply.Stopped (Stop.Exception Exception.Undefined)
+    ∷ Reply.Stopped (Stop.Exception (Exception.Svc 0))
+    ∷ Reply.Stopped (Stop.Exception Exception.PcAlignment)
+    ∷ Reply.Done
+    ∷ Reply.Value 0
+    ∷ Reply.Faults
+    ∷ [])
+    ≡ (true ∷ true ∷ true ∷ true ∷ false ∷ false ∷ false ∷ false ∷ false ∷ [])

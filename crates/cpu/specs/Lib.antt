@@ -1,4 +1,4 @@
--- Calls, places and bytes: the checks 1 to 7; where the bytes of an access lie; how it ends; the replies.
+-- Calls, places and bytes: the checks 1 to 8; where the bytes of an access lie; how it ends; the replies.
 pub mod Answers
 pub mod Check
 pub mod CheckCases

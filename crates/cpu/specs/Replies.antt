@@ -1,5 +1,5 @@
 -- Each operation's answer as a reply.
-use Rattle.std.specs.Prelude.{ℕ, Ok, Err, Option, Some, None}
+use Rattle.std.specs.Prelude.{ℕ, Bool, true, false, Ok, Err, Option, Some, None}
 use Rattle.tlb.specs.Answers.{Answer}
 use Rattle.cpu.specs.Answers.{LoadAnswer, StoreAnswer, FetchAnswer}
 use Rattle.exception.specs.declared.kind.Exception.TheVariants as Exception
@@ -33,3 +33,10 @@ abbrev pub registering : WriteAnswer → Reply
 registering (Ok x) = Done
 registering (Err Undefined) = Stopped (Stop.Exception Exception.Undefined)
 registering (Err NoRegister) = Refused 6
+
+-- a number, Undefined and Unimplemented: refusals, which change nothing
+abbrev pub refuses : Reply → Bool
+refuses (Refused n) = true
+refuses (Stopped Stop.Unimplemented) = true
+refuses (Stopped (Stop.Exception Exception.Undefined)) = true
+refuses _ = false

@@ -1,9 +1,9 @@
-// The checks 1 to 7 of docs/SCOPE.md, each call's from top to bottom.
+// The checks 1 to 8 of docs/SCOPE.md, each call's from top to bottom; of several cores 8 comes before all.
 ghost use Rattle.std.specs.Prelude.{if◌then◌else◌, ◌≡◌, not, ◌||◌, [], ◌∷◌, nat_lt, Ok, Some};
 ghost use Rattle.word.specs.Ram.{width_of};
 ghost use Rattle.word.specs.declared.ram.Width.{Width};
 ghost use Rattle.cpu.specs.Check.{passes, overlong, kept, ram_rows, sized_rows, first_of, missed_of};
-ghost use Rattle.cpu.specs.Check.{number_of, number_missed};
+ghost use Rattle.cpu.specs.Check.{number_of, number_missed, core_of};
 ghost use Rattle.cpu.specs.declared.call.Call.TheVariants as Call;
 
 use crate::call::Call;
@@ -28,10 +28,12 @@ pub enum Check {
     Key,
     /// a census has at most 65,536 pages, and its range ends at 2^64 or before
     Pages,
+    /// of several cores, a core's number is at most 3
+    Core,
 }
 
 impl Check {
-    /// Its number, 1 to 7.
+    /// Its number, 1 to 8.
     pub fn number(self) -> u8
         ensures { result ≡ number_of self }
     {
@@ -62,6 +64,17 @@ pub fn past_end(base: u64, len: u64) -> bool
     ensures { result ≡ passes base len }
 {
     u64::MAX - len < base && u64::MAX - base + 1 < len
+}
+
+/// The place among four cores of the one that has a number.
+pub fn core(n: u64) -> Result<usize, Check>
+    ensures { result ≡ core_of n }
+{
+    if 3 < n {
+        Err(Check::Core)
+    } else {
+        Ok(n as usize)
+    }
 }
 
 // Whether a census has more than 65,536 pages, or its range passes 2^64.
@@ -137,6 +150,7 @@ pub fn census(level: u8, base: u64, len: u64, first: u64, pages: u64) -> Result<
 }
 
 /// Any call.
+#[inline(always)]
 #[tactic(auto, unfolding(crate::specs::Check::missed_of))]
 pub fn missed(level: u8, base: u64, len: u64, call: Call) -> Result<(), Check>
     ensures { number_missed result ≡ missed_of level base len call }

@@ -113,6 +113,7 @@ impl Core {
 
     /// Where an access of the kind to va goes: the data hint first, which is asked once. The fetch hint is neither used
     /// nor set.
+    #[inline(always)]
     #[tactic(auto, unfolding(crate::specs::Memory::translate_of, crate::specs::Memory::stepped_now, crate::specs::Memory::past_hint_of, crate::specs::Translations::translate_in, crate::specs::Translations::past_hint_step, crate::specs::Core::after_access, crate::specs::Work::translate_work, crate::specs::Work::past_hint_work))]
     pub fn translate(
         &mut self,
@@ -133,6 +134,7 @@ impl Core {
     }
 
     /// The translation that a fetch begins with: by the fetch hint, and else one that leaves it.
+    #[inline(always)]
     #[tactic(auto, unfolding(crate::specs::Memory::translate_fetch_of, crate::specs::Memory::fetch_stepped_now, crate::specs::Memory::past_hint_of, crate::specs::Translations::past_hint_step, crate::specs::Translations::translate_fetch_in, crate::specs::Core::after_access, crate::specs::Work::fetch_work, crate::specs::Work::past_hint_work))]
     pub fn translate_fetch(
         &mut self,
@@ -269,6 +271,7 @@ impl Core {
     }
 
     /// The instruction at va, by the fetch hint first: four bytes, never split. An error is an instruction abort at va.
+    #[inline(always)]
     #[tactic(auto, unfolding(crate::specs::Memory::fetch_of, crate::specs::Memory::translate_fetch_of, crate::specs::Core::after_access, crate::specs::Ends::fetch_end))]
     pub fn fetch(
         &mut self,
@@ -301,6 +304,7 @@ impl Core {
     }
 
     /// Where a fetch of va goes, by the same hint, which a new page refreshes.
+    #[inline(always)]
     #[tactic(auto, unfolding(crate::specs::Memory::fetch_pa_of, crate::specs::Memory::translate_fetch_of))]
     pub fn fetch_pa(&mut self, base: u64, ram: &[u8], va: u64, work: &mut Work) -> Option<u64>
         ensures core { record { core = self.new; answer = result } ≡ fetch_pa_of self.old (word_at base ram.now 8) va }
@@ -310,6 +314,7 @@ impl Core {
     }
 
     /// Where a data read of va goes.
+    #[inline(always)]
     #[tactic(auto, unfolding(crate::specs::Memory::data_pa_of, crate::specs::Memory::translate_of))]
     pub fn data_pa(&mut self, base: u64, ram: &[u8], va: u64, work: &mut Work) -> Option<u64>
         ensures core { record { core = self.new; answer = result } ≡ data_pa_of self.old (word_at base ram.now 8) va }

@@ -1,7 +1,7 @@
 // Each operation's answer as a reply.
 ghost use Rattle.std.specs.Prelude.{◌≡◌};
 ghost use Rattle.cpu.specs.Check.{number_of};
-ghost use Rattle.cpu.specs.Replies.{translation, reaching, loading, storing, fetching, registering};
+ghost use Rattle.cpu.specs.Replies.{translation, reaching, loading, storing, fetching, registering, refuses};
 ghost use Rattle.cpu.specs.declared.call.Reply.TheVariants.{Refused};
 
 use crate::call::Reply;
@@ -29,6 +29,18 @@ impl Reply {
             Some(pa) => Reply::Value(pa),
             None => Reply::Faults,
         }
+    }
+
+    /// Whether the call was refused, by a check or as Undefined or Unimplemented: then it changed nothing.
+    pub fn refuses(self) -> bool
+        ensures { result ≡ refuses self }
+    {
+        matches!(
+            self,
+            Reply::Refused(_)
+                | Reply::Stopped(Stop::Unimplemented)
+                | Reply::Stopped(Stop::Exception(Exception::Undefined))
+        )
     }
 }
 

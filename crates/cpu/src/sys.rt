@@ -61,6 +61,7 @@ impl Core {
     }
 
     /// DC ZVA: 64 bytes, aligned.
+    #[inline(always)]
     pub fn zva(&mut self, base: u64, ram: &mut [u8], x: u64, work: &mut Work) -> Result<(), Stop>
         ensures value { record { core = self.new; answer = result } ≡ zero_of 8 self.old base ram.old (align_down x 6) }
         ensures ram_after { ram.new ≡ zero_ram 8 self.old base ram.old (align_down x 6) }
@@ -70,6 +71,7 @@ impl Core {
     }
 
     /// A system operation.
+    #[inline(always)]
     #[tactic(auto, unfolding(crate::specs::System::sys_of, crate::specs::System::sys_ram, crate::specs::Work::sys_work))]
     pub fn sys(
         &mut self,
