@@ -18,3 +18,6 @@ pub mod EveryJudgement
 pub mod EveryNeighbour
 pub mod EveryCall
 pub mod EveryReply
+pub mod Delivered
+pub mod SeenFrom
+pub mod Faithful

@@ -3,8 +3,13 @@ pub mod World
 pub mod History
 pub mod Invisible
 pub mod Calls
+pub mod Faithful
+-- Several cores on one RAM, each as a machine of its own.
+pub mod Delivered
+pub mod SeenFrom
 -- The plain model of the cache over a history.
 pub mod ModelRun
+pub mod ModelList
 pub mod Tallies
 -- The real registers and walk.
 pub mod Window

@@ -2,12 +2,15 @@
 ghost use Rattle.history.specs.History.{EveryHistoryFaithful};
 ghost use Rattle.history.specs.Instance.{real, fresh_plain};
 ghost use Rattle.history.specs.Invisible.{Invisible};
-ghost use Rattle.history.specs.World.{Laws};
+ghost use Rattle.history.specs.Calls.{Machine, Replies};
+ghost use Rattle.history.specs.World.{World, Laws};
 ghost use Rattle.history.specs.Theorems.{every_origin, every_judgement, every_fault_row};
 ghost use Rattle.history.specs.Theorems.{every_cache_modelled, every_answer_modelled, every_asid_current};
 ghost use Rattle.history.specs.Theorems.{hits_by_level, walks_by_level, sums_as_rust, other_levels_stay};
 ghost use Rattle.history.specs.Theorems.{settled_when_off, settled_by_steps, settled_by_asid, covered_as_dropped};
 ghost use Rattle.history.specs.Theorems.{same_for_neighbours};
+ghost use Rattle.history.specs.Faithful.{Says};
+ghost use Rattle.history.specs.SeenFrom.{Sharing, SeenFromEach, RepliesFromEach, MadeFromEach};
 ghost use Rattle.history.specs.Theorems.{uncached_is_fresh, uncached_is_checked};
 
 /// The real registers and walk keep the laws that the theory of histories rests on: a register write that leaves
@@ -76,4 +79,28 @@ pub fn neighbours()
 pub fn without_cache()
     ensures fresh { uncached_is_fresh }
     ensures checked { uncached_is_checked }
+{}
+
+/// A machine of the theory, any: the world that it is in, what its calls share with other cores, what they reply,
+/// and how they make that from the answers to their translations.
+pub trait AnyMachine {
+    ghost world: { World };
+
+    ghost machine: { Machine world };
+
+    ghost sharing: { Sharing world machine };
+
+    ghost replies: { Replies world machine };
+
+    ghost says: { Says world machine replies };
+}
+
+/// Of every machine: one of several such cores is a machine of its own, where the others hear what each call shares and
+/// its mark is cleared. Its history has its own calls, its own Inner Shareable invalidations among them, and of each
+/// other core's call what that shares, once; and its replies are made from its answers, where the machine's are. Rules
+/// out a core whose own Inner Shareable invalidation is told as none, and a share that is told to its sender too.
+pub fn several_cores<M: AnyMachine>()
+    ensures seen { SeenFromEach M.world M.machine M.sharing }
+    ensures replies { RepliesFromEach M.world M.machine M.sharing M.replies }
+    ensures made { MadeFromEach M.world M.machine M.sharing M.replies M.says }
 {}

@@ -20,7 +20,7 @@ use Rattle.transparency.proofs.Beside.{two-cores}
 use Rattle.transparency.specs.Census.{bare_counts, answers_fault, NoPermission, answers_address}
 use Rattle.transparency.specs.Census as Statement
 
-counts-bare : (c : Core) (m : Ram) (first pages : ℕ) (old : List ℕ)
+pub counts-bare : (c : Core) (m : Ram) (first pages : ℕ) (old : List ℕ)
     → counts_after c m.base m.bytes first pages old ≡ bare_counts (bare_of c) m first pages old
 unfolding counts_after
 counts-bare c m first pages old = grind arith

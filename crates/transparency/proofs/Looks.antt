@@ -20,7 +20,7 @@ pub looking-calls : looking_calls
 looking-calls first pages va kind user = grind arith
 
 -- after every list, refused or not
-reply-bare : (c : Core) (m : Ram) (x : Call) → looks x ≡ true
+pub reply-bare : (c : Core) (m : Ram) (x : Call) → looks x ≡ true
     → (step_of c m.base m.bytes x).reply ≡ (bare_reply (bare_of c) m x).reply
 unfolding step_of run_of
 reply-bare c m x h = grind arith

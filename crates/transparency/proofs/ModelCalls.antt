@@ -16,9 +16,10 @@ use Rattle.history.specs.History.{plain_run, tlb_run}
 use Rattle.history.proofs.Lists.{run-low}
 use Rattle.history.proofs.Theorem.{history-asid, history-well}
 use Rattle.history.specs.ModelRun.{StandsFor}
-use Rattle.history.proofs.ModelLaws.{run-stands, fresh-stands, answers-run-live}
+use Rattle.history.proofs.ModelLaws.{run-stands, answers-run-live}
 use Rattle.history.specs.Calls.{Lent}
-use Rattle.history.proofs.EveryCall.{shown-lent, shown-shown, run-plain, run-tlb}
+use Rattle.history.proofs.Faithful.{plain-by, tlb-by}
+use Rattle.history.proofs.Faithful.{every-list-modelled as list-modelled}
 use Rattle.history.specs.Instance.{Ram, real}
 use Rattle.history.proofs.Instance.{real-laws, fresh-asid}
 use Rattle.transparency.specs.Events.{plain_in}
@@ -29,7 +30,7 @@ use Rattle.transparency.specs.Machine.{machine}
 use Rattle.transparency.proofs.Bridge.{bridge, fits}
 use Rattle.transparency.specs.Beside.{core_after, bare_after}
 use Rattle.transparency.proofs.Beside.{two-cores}
-use Rattle.transparency.specs.Faithful.{fed_by, events_after, answers_after, FaithfulCall}
+use Rattle.transparency.specs.Faithful.{events_after, answers_after, FaithfulCall}
 use Rattle.transparency.proofs.Faithful.{faithful-step}
 use Rattle.transparency.specs.ModelCalls.{events_by, model_after_list, model_after_call, model_answers_after, tlb_after_call, Modelled}
 use Rattle.transparency.specs.ModelCalls as Statement
@@ -37,18 +38,15 @@ use Rattle.transparency.specs.ModelCalls as Statement
 module _ (list : List (Lent real machine)) where
   tlb-run : (core_after list).tlb ≡ tlb_run real (plain_in fresh_bare) (events_by list) fresh
   unfolding fresh_core
-  tlb-run =
-      subst (λ (l : List (Lent real machine)). (core_after l).tlb ≡ tlb_run real (plain_in fresh_bare) (events_by list) fresh)
-      (shown-lent real machine fresh_core list) (run-tlb real machine bridge fresh_core (fed_by list) (shown-shown real machine fresh_core list))
+  tlb-run = tlb-by real machine bridge fresh_core list
 
   plain-run : plain_in (bare_of (core_after list)) ≡ plain_run real (plain_in fresh_bare) (events_by list)
   unfolding fresh_core
-  plain-run =
-      subst (λ (l : List (Lent real machine)). plain_in (bare_of (core_after l)) ≡ plain_run real (plain_in fresh_bare) (events_by list))
-      (shown-lent real machine fresh_core list) (run-plain real machine bridge fresh_core (fed_by list) (shown-shown real machine fresh_core list))
+  plain-run = plain-by real machine bridge fresh_core list
 
-  pub every-list-modelled : StandsFor (core_after list).tlb (model_after_list list)
-  every-list-modelled = search (rules, tlb-run, run-stands, real-laws, fresh-stands)
+pub every-list-modelled : Statement.every_list_modelled
+unfolding fresh_core
+every-list-modelled = list-modelled real machine bridge real-laws fresh_core refl fresh-asid (omega arith)
 
 -- EVERY CORE THAT CALLS REACH: its level is 3 at most, its cache is well-formed, and the cache's ASID is that of the
 -- registers.

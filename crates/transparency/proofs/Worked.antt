@@ -71,16 +71,16 @@ block oa desc = record { oa = oa; desc = desc; perms = 0x3C; level = 1; global =
 -- THE PREMISE, on the list's steps
 
 -- the registers after each write
-abbrev first : Control
+abbrev pub first : Control
 first = control_with fresh_control (Tcr El1) 0x80000019
 
-abbrev second : Control
+abbrev pub second : Control
 second = control_with first (Ttbr0 El1) 0x1000
 
-abbrev registers : Control
+abbrev pub registers : Control
 registers = control_with second (Sctlr El1) 1
 
-abbrev reads : Ram → Event real
+abbrev pub reads : Ram → Event real
 reads m = steps m (asking (translates Read 0x40001234 ∷ []))
 
 abbrev events : List (Event real)
@@ -96,7 +96,7 @@ events =
     ∷ []
 
 -- the page's walks
-walks :
+pub walks :
     (page_walk real registers none El1 0x40001 ≡ Err 5)
     × (page_walk real registers old El1 0x40001 ≡ Ok (block 0x80001000 0x80000401))
     × (page_walk real registers new El1 0x40001 ≡ Ok (block 0xC0001000 0xC0000401))
@@ -107,17 +107,17 @@ walks = (refl, refl, refl)
 mapped-inj : {x y : Leaf} → ◌≡◌ {A = Walked} (Ok x) (Ok y) → x ≡ y
 mapped-inj e = cc
 
-unmapped : {code : ℕ} {ℓ : Leaf} → Err code ≡ Ok ℓ → ⊥
+pub unmapped : {code : ℕ} {ℓ : Leaf} → Err code ≡ Ok ℓ → ⊥
 unmapped e = let z : ◌≡◌ {A = ℕ} 0 1 = cc in omega arith
 
 -- the old walk is covered, though the Page is of another 4 KiB page
-covered : (ℓ : Leaf) (a : ℕ) → page_walk real registers old El1 0x40001 ≡ Ok ℓ → Each (λ v. covers v 0x40001 ℓ a ≡ false) (Page 0x7FFFF ∷ []) → ⊥
+pub covered : (ℓ : Leaf) (a : ℕ) → page_walk real registers old El1 0x40001 ≡ Ok ℓ → Each (λ v. covers v 0x40001 ℓ a ≡ false) (Page 0x7FFFF ∷ []) → ⊥
 unfolding covers
 covered ℓ a e us =
     true≢false (each-head (subst (λ (x : Leaf). Each (λ v. covers v 0x40001 x a ≡ false) (Page 0x7FFFF ∷ [])) (sym (mapped-inj (sym walks.1 ∙ e))) us))
 
 -- the new one equals the walk now
-unchanged : (ℓ : Leaf) → page_walk real registers new El1 0x40001 ≡ Ok ℓ
+pub unchanged : (ℓ : Leaf) → page_walk real registers new El1 0x40001 ≡ Ok ℓ
     → (ℓ' : Leaf) × (page_walk real registers new El1 0x40001 ≡ Ok ℓ') × LeavesEqual ℓ ℓ'
 unchanged ℓ e = (ℓ, e, record { pages = refl; perms = refl; levels = refl })
 

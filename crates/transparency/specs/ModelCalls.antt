@@ -6,17 +6,20 @@
 use Rattle.std.specs.Prelude.{◌≡◌, ◌≤◌}
 use mathlib.Core.List.{List}
 use Rattle.sysreg.specs.Shape.{asid_of}
-use Rattle.tlb.specs.Model.{Model, empty_model}
+use Rattle.tlb.specs.Model.{Model}
 use Rattle.tlb.specs.Live.{counters_of, pending_of, live, WellFormed}
 use Rattle.tlb.specs.Asks.{Given}
 use Rattle.tlb.specs.declared.Tlb.{Tlb}
 use Rattle.cpu.specs.Bare.{fresh_bare}
+use Rattle.cpu.specs.Core.{fresh_core}
 use Rattle.cpu.specs.declared.Core.{Core}
 use Rattle.cpu.specs.Step.{step_of}
 use Rattle.cpu.specs.declared.call.Call.{Call}
 use Rattle.history.specs.History.{Event}
-use Rattle.history.specs.ModelRun.{model_run, model_answers_run, StandsFor}
-use Rattle.history.specs.Calls.{Lent, events_run}
+use Rattle.history.specs.ModelRun.{model_run, model_answers_run}
+use Rattle.history.specs.Calls.{Lent}
+use Rattle.history.specs.Faithful as History
+use Rattle.history.specs.ModelList.{model_by, EveryListModelled}
 use Rattle.history.specs.Instance.{Ram, real}
 use Rattle.transparency.specs.Events.{plain_in}
 use Rattle.transparency.specs.Replies.{outcome_of}
@@ -24,14 +27,14 @@ use Rattle.transparency.specs.Says.{says_in}
 use Rattle.transparency.specs.Starts.{later_in}
 use Rattle.transparency.specs.Machine.{machine}
 use Rattle.transparency.specs.Beside.{core_after, bare_after, EveryList, EveryCall}
-use Rattle.transparency.specs.Faithful.{fed_by, events_after, answers_after}
+use Rattle.transparency.specs.Faithful.{events_after, answers_after}
 
 -- the steps of a list, and the plain model after them
 abbrev pub events_by : List (Lent real machine) → List (Event real)
-events_by list = events_run real machine fresh_bare (fed_by list)
+events_by list = History.events_by real machine fresh_core fresh_bare list
 
 abbrev pub model_after_list : List (Lent real machine) → Model
-model_after_list list = model_run real (plain_in fresh_bare) (events_by list) empty_model
+model_after_list list = model_by real machine fresh_core fresh_bare list
 
 -- and after a call x, on the RAM m, that follows the list; its answers
 abbrev pub model_after_call : List (Lent real machine) → Ram → Call → Model
@@ -47,7 +50,7 @@ tlb_after_call list m x = (step_of (core_after list) m.base m.bytes x).core.tlb
 
 -- the core's cache stands for the model
 abbrev pub every_list_modelled : Type 0
-every_list_modelled = EveryList (λ list. StandsFor (core_after list).tlb (model_after_list list))
+every_list_modelled = EveryListModelled real machine fresh_core fresh_bare
 
 -- EVERY CORE THAT CALLS REACH: its level is 3 at most, its cache is well-formed, and the cache's ASID is that of the
 -- registers.
