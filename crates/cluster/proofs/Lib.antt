@@ -1,0 +1,10 @@
+pub mod Telling
+pub mod Refused
+pub mod Share
+pub mod Four
+pub mod Runs
+pub mod Faithful
+pub mod Laws
+pub mod EveryCore
+pub mod Worked
+pub mod Rows
