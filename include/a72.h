@@ -8,7 +8,7 @@
  * stays where it is and is written by nobody else as long as the core is used, and there is nothing to release: it is
  * freed or used otherwise as any memory. a72_copy copies a core; so do a72_save and a72_restore, by numbered words
  * for a file or another program. Memory copied by assignment, memcpy or realloc is no core: it leads to the old one.
- * a72_init takes some 8 KiB of stack, a72_windows 26 KiB, every other function about 1 KiB.
+ * a72_init takes some 8 KiB of stack, a72_windows 26 KiB, every other function about 1 KiB; so do those of a cluster.
  *
  * RAM. A function that needs memory is lent a window of it: `base`, the physical address of its first byte, then
  * `ram` and `len`, its bytes and their number. What lies outside the window is an external abort (status 0x10; on a
@@ -18,7 +18,8 @@
  * for its own as long as a call lasts, also where it only reads, so no core is const. No pointer is null, also where
  * the length beside it is 0; each is to as much memory as is said, and what a function writes overlaps nothing else
  * that it is lent. Of values nothing is asked: whatever numbers, words and bytes stand there, each function ends and
- * stays inside. Cores in several threads are independent; several cores over one window take turns.
+ * stays inside. Cores in several threads are independent; several cores over one window take turns. Four that hand
+ * each other's invalidations on are an a72_cluster, near the end.
  *
  * Numbers. Each function that may be refused gives a number: A72_DONE, that of a check that the call misses,
  * A72_NAMES_NOTHING, A72_UNDEFINED, A72_UNIMPLEMENTED, or A72_FAULT plus the status of a fault. From 1 to 66 nothing
@@ -158,9 +159,10 @@ uint64_t a72_word(a72_core *core, size_t place);
 #define A72_CHECK_NUMBER 5 /* the number of a general register is above 31 */
 #define A72_CHECK_KEY 6    /* the key is that of no register kept */
 #define A72_CHECK_RANGE 7  /* a census of more than A72_MOST_PAGES pages, or of a range that passes 2^64 */
+#define A72_CHECK_CORE 8   /* the number of a core of a cluster is above 3 */
 #define A72_CHECK_LIST 9   /* the bytes are no list of windows */
 #define A72_PAGE_FAULTS 10 /* a page of a list of windows faults: the one number from 1 to 66 that writes */
-#define A72_LAST_CHECK 63  /* 8, and 11 to 63, are kept for checks to come */
+#define A72_LAST_CHECK 63  /* 11 to 63 are kept for checks to come */
 #define A72_NAMES_NOTHING 64 /* a kind, a mark, a user, a regime, an exception or an operation's code is none */
 #define A72_UNDEFINED 65
 #define A72_UNIMPLEMENTED 66
@@ -640,6 +642,95 @@ struct a72_fetch_hint {
 };
 
 void a72_get_fetch_hint(a72_core *core, struct a72_fetch_hint *hint);
+
+/* ---- Four cores over one RAM ---- */
+
+/* A cluster is four cores, numbers 0 to 3, each with registers and a cache of its own. A call on one of them is named
+ * and numbered as that of a single core, answers as it does, and writes what it writes there. Besides:
+ *   The number. One above 3 gives A72_CHECK_CORE, before every other check and A72_NAMES_NOTHING. Nothing is written.
+ *   Invalidations. What the core has pending after the call, as it has after a TLBI of the Inner Shareable forms, the
+ *     other three carry out, as by a72_receive, and it is pending no more: both before the call returns. A TLBI with
+ *     CRm 7 reaches no other core.
+ *   Refusals. A call that is refused, with a number from 1 to 66, hands nothing on; nor does a72_cluster_step where the
+ *     answer's code is A72_ANSWER_CHECK, A72_ANSWER_UNDEFINED or A72_ANSWER_UNIMPLEMENTED. A fault is no refusal.
+ * A census, windows and a flip are calls as the others are.
+ *
+ * So nothing is pending between calls, unless a core is put in with it (a72_cluster_put): it is then handed on by that
+ * core's next call that is not refused.
+ *
+ * A cluster is what a core is in all else. It lies in memory of the caller's, A72_CLUSTER_SIZE bytes at a multiple of
+ * A72_CLUSTER_ALIGN, where it stays. One call at a time uses it, whichever cores they name: the threads of an emulator
+ * that share one take turns, each for the call alone. Clusters, and cores beside them, are independent. */
+typedef struct a72_cluster a72_cluster;
+
+/* The cluster's address, in A72_HANDLE_SIZE bytes, and after it the four cores. */
+#define A72_CLUSTER_SIZE 166952
+#define A72_CLUSTER_ALIGN 8
+
+/* A variable that holds a cluster. */
+typedef union a72_cluster_memory {
+    uint64_t aligned;
+    unsigned char bytes[A72_CLUSTER_SIZE];
+} a72_cluster_memory;
+
+/* The cluster itself becomes one out of reset, past its address: a72_cluster_init does both. */
+void a72_cluster_init_at(void *at);
+
+/* Memory becomes a cluster of four cores out of reset, each as a72_init makes one, VMPIDR_EL2 too. The cluster has the
+ * memory's address. */
+static inline a72_cluster *a72_cluster_init(void *memory) {
+    void *at = (unsigned char *)memory + A72_HANDLE_SIZE;
+    memcpy(memory, &at, sizeof at);
+    a72_cluster_init_at(at);
+    return (a72_cluster *)memory;
+}
+
+/* Other memory becomes a cluster that holds the same. */
+static inline a72_cluster *a72_cluster_copy(void *memory, const a72_cluster *cluster) {
+    void *at = (unsigned char *)memory + A72_HANDLE_SIZE;
+    memcpy(memory, &at, sizeof at);
+    memcpy(at, (const unsigned char *)cluster + A72_HANDLE_SIZE, A72_CLUSTER_SIZE - A72_HANDLE_SIZE);
+    return (a72_cluster *)memory;
+}
+
+/* A core of the cluster is copied out, into a core that a72_init or a72_copy made: to be read by a72_get_.., saved, or
+ * changed and put in again. A72_DONE or A72_CHECK_CORE. This and a72_cluster_put copy a whole core, A72_CORE_SIZE bytes,
+ * and hand nothing on. */
+uint64_t a72_cluster_get(a72_cluster *cluster, uint64_t core, a72_core *out);
+
+/* A core is copied in, in the place of that of this number: all that it holds, what is pending too. */
+uint64_t a72_cluster_put(a72_cluster *cluster, uint64_t core, a72_core *from);
+
+/* Each call as it is of a single core, under `The calls`. */
+uint64_t a72_cluster_translate(a72_cluster *cluster, uint64_t core, uint64_t va, uint64_t kind, a72_answer *answer,
+                               uint64_t base, const uint8_t *ram, size_t len);
+uint64_t a72_cluster_data_pa(a72_cluster *cluster, uint64_t core, uint64_t va, a72_answer *answer, uint64_t base,
+                             const uint8_t *ram, size_t len);
+uint64_t a72_cluster_fetch_pa(a72_cluster *cluster, uint64_t core, uint64_t va, a72_answer *answer, uint64_t base,
+                              const uint8_t *ram, size_t len);
+uint64_t a72_cluster_load(a72_cluster *cluster, uint64_t core, uint64_t va, uint64_t size, a72_answer *answer,
+                          uint64_t base, const uint8_t *ram, size_t len);
+uint64_t a72_cluster_store(a72_cluster *cluster, uint64_t core, uint64_t va, uint64_t size, uint64_t value,
+                           a72_answer *answer, uint64_t base, uint8_t *ram, size_t len);
+uint64_t a72_cluster_fetch(a72_cluster *cluster, uint64_t core, uint64_t va, a72_answer *answer, uint64_t base,
+                           const uint8_t *ram, size_t len);
+uint64_t a72_cluster_system(a72_cluster *cluster, uint64_t core, uint64_t op1, uint64_t crn, uint64_t crm,
+                            uint64_t op2, uint64_t rt, a72_answer *answer, uint64_t base, uint8_t *ram, size_t len);
+uint64_t a72_cluster_register(a72_cluster *cluster, uint64_t core, uint64_t key, uint64_t value);
+uint64_t a72_cluster_level(a72_cluster *cluster, uint64_t core, uint64_t level);
+uint64_t a72_cluster_mark(a72_cluster *cluster, uint64_t core, uint64_t mark);
+uint64_t a72_cluster_general(a72_cluster *cluster, uint64_t core, uint64_t number, uint64_t value);
+uint64_t a72_cluster_abort(a72_cluster *cluster, uint64_t core, const uint64_t exception[4]);
+uint64_t a72_cluster_census(a72_cluster *cluster, uint64_t core, uint64_t first, uint64_t pages,
+                            uint64_t counts[A72_COUNTS], uint64_t base, const uint8_t *ram, size_t len);
+uint64_t a72_cluster_windows(a72_cluster *cluster, uint64_t core, const uint8_t *list, size_t list_len,
+                             uint64_t out[3], uint64_t base, const uint8_t *ram, size_t len);
+uint64_t a72_cluster_flip(a72_cluster *cluster, uint64_t core, uint64_t va, uint64_t kind, uint64_t user,
+                          uint64_t out[3], uint64_t base, uint8_t *ram, size_t len);
+
+/* A72_DONE, also where the operation is refused; A72_NAMES_NOTHING or A72_CHECK_CORE, and nothing is written. */
+uint64_t a72_cluster_step(const uint64_t op[8], a72_cluster *cluster, uint64_t core, uint64_t base, uint8_t *ram,
+                          size_t len, uint64_t answer[5]);
 
 /* ---- Sample frames of a number of cycles, without a core ---- */
 

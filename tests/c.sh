@@ -1,6 +1,6 @@
 #!/bin/sh
-# include/a72.h from C: bindings/c/example.c and embed.c write what their .out has, tests/readers.c reads what it set, tests/windows.c asks for pairs of
-# windows, and tests/flip.c for bits of RAM. All compile without a warning, as C++ too. Wants a C compiler (CC, or cc, gcc, clang, or the kit's where it finds the C library's headers) and target/staticlib/liba72abi.a
+# include/a72.h from C: bindings/c/example.c, embed.c and cluster.c write what their .out has, tests/readers.c reads what it set, tests/windows.c asks for pairs of
+# windows, tests/flip.c for bits of RAM, and tests/cluster.c has four cores beside four single ones. All compile without a warning, as C++ too. Wants a C compiler (CC, or cc, gcc, clang, or the kit's where it finds the C library's headers) and target/staticlib/liba72abi.a
 # (tools/build a72abi; A72_LIB names another folder). What lacks one of them is left out, and said to be.
 set -eu
 cd "$(dirname "$0")/.."
@@ -26,16 +26,16 @@ cc=$(compiler c "${CC-}" cc gcc clang)
 cxx=$(compiler c++ "${CXX-}" c++ g++ clang++)
 
 # shellcheck disable=SC2086
-for name in bindings/c/example bindings/c/embed tests/readers tests/windows tests/flip; do
-    "$cc" -std=c99 $strict -c "$name.c" -o "$work/$(basename "$name").o"
+for name in bindings/c/example bindings/c/embed bindings/c/cluster tests/readers tests/windows tests/flip tests/cluster; do
+    "$cc" -std=c99 $strict -c "$name.c" -o "$work/$(echo "$name" | tr / -).o"
     [ -z "$cxx" ] || "$cxx" -x c++ -std=c++11 $strict -fsyntax-only "$name.c"
 done
 [ -f "$library" ] || { echo "compiled; the run is left out: $library is missing, and tools/build a72abi makes it"; exit 0; }
-for name in example embed readers windows flip; do
+for name in bindings-c-example bindings-c-embed bindings-c-cluster tests-readers tests-windows tests-flip tests-cluster; do
     "$cc" "$work/$name.o" "$library" -o "$work/$name"
 done
-for name in example embed; do
-    "$work/$name" >"$work/out"
+for name in example embed cluster; do
+    "$work/bindings-c-$name" >"$work/out"
     diff "bindings/c/$name.out" "$work/out"
 done
 # Installed, it is found by pkg-config, where that is here.
@@ -48,7 +48,7 @@ else
 fi
 "$work/installed" >"$work/out"
 diff bindings/c/embed.out "$work/out"
-for name in readers windows flip; do
-    "$work/$name" >"$work/$name.said" || { cat "$work/$name.said"; exit 1; }
+for name in readers windows flip cluster; do
+    "$work/tests-$name" >"$work/$name.said" || { cat "$work/$name.said"; exit 1; }
 done
-echo "both examples compile${cxx:+, as C++ too,} and write what is expected, installed too; $(cat "$work/readers.said"), of windows $(cat "$work/windows.said"), of flips $(cat "$work/flip.said")"
+echo "the examples compile${cxx:+, as C++ too,} and write what is expected, installed too; $(cat "$work/readers.said"), of windows $(cat "$work/windows.said"), of flips $(cat "$work/flip.said"), of four cores $(cat "$work/cluster.said")"

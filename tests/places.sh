@@ -1,5 +1,5 @@
 #!/bin/sh
-# The C interface is one wherever it is written: the places of a saved core's words, the memory of a core, the numbers that the functions give, the counts of
+# The C interface is one wherever it is written: the places of a saved core's words, the memory of a core and of a cluster, the numbers that the functions give, the counts of
 # a census, the most windows of a list and their most pages, the codes of the operations, the fields of an answer, the keys of the registers, the system operations, and each function's parameters. Compares the library (crates/), include/a72.h, bindings/rust/src and bindings/rust-archive/src, line by line;
 # of keys and operations also tests/names.txt, which tests/tool.sh holds the tool to. Wants nothing.
 # Its last line is 'N lines are one in all tables'; where two differ it names both and the place, and ends with 1.
@@ -50,17 +50,19 @@ awk '$1 == "WORDS" { end = $2; next }
     $2 <= last && NR > 2 || $2 >= end { print "place " $1 ": " $2 " is not between the one before it and " end; exit 1 }
     { last = $2 }' "$work/crates/saved/src/place.rt"
 
-# A core's memory: NAME NUMBER. The library proves its parts: the handle, the core, its alignment.
-sed -n 's/^const _: () = prove!(\(.*\)_of::<\(.*\)>() == \([0-9]*\));$/\1 \2 \3/p' crates/core_static/src/state.rt | awk '
+# The memory of a core, and of a cluster: NAME NUMBER. The library proves its parts: the handle, what it is of, and its alignment.
+cat crates/core_static/src/*.rt | sed -n 's/^const _: () = prove!(\(.*\)_of::<\(.*\)>() == \([0-9]*\));$/\1 \2 \3/p' | awk '
     { of[$1 " " $2] = $3 }
     END {
         if (of["size Core"] && of["size Handle"]) print "CORE_SIZE", of["size Core"] + of["size Handle"]
         print "CORE_ALIGN", of["align Core"]
         print "HANDLE_SIZE", of["size Handle"]
-    }' | table crates/core_static/src/state.rt
-awk '/^#define A72_(CORE_SIZE|CORE_ALIGN|HANDLE_SIZE) [0-9]+$/ { sub("A72_", "", $2); print $2, $3 }' $header | table $header
-awk "$constants" bindings/rust-archive/src/held.rs | table bindings/rust-archive/src/held.rs
-for other in $header bindings/rust-archive/src/held.rs; do one memory crates/core_static/src/state.rt "$other"; done
+        if (of["size ClusterHandle"] == of["size Handle"]) print "CLUSTER_SIZE", of["size Cluster"] + of["size Handle"]
+        print "CLUSTER_ALIGN", of["align Cluster"]
+    }' | table memory/all
+awk '/^#define A72_(CORE_SIZE|CORE_ALIGN|HANDLE_SIZE|CLUSTER_SIZE|CLUSTER_ALIGN) [0-9]+$/ { sub("A72_", "", $2); print $2, $3 }' $header | table memory/a72.h
+awk "$constants" bindings/rust-archive/src/held.rs bindings/rust-archive/src/held_cluster.rs | table memory/held.rs
+for other in memory/a72.h memory/held.rs; do one memory memory/all "$other"; done
 
 # Numbers that the functions give: those of bindings/rust/src/number.rs, and of the checks of a call by their order in answer.rs.
 awk "$constants" bindings/rust/src/number.rs | table bindings/rust/src/number.rs

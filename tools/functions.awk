@@ -1,5 +1,5 @@
 # The functions that the static library exports, from Rattle, from a C header or from a Rust extern block: a line each, its name, its parameters
-# and its result. A core is a pointer to its handle: core; memory for one: memory; what a call reports: answer. An array is one pointer, a struct of words
+# and its result. A core is a pointer to its handle: core; a cluster the same: cluster; memory for either: memory; what a call reports: answer. An array is one pointer, a struct of words
 # too: saved, words4 ..; a slice of bytes is a pointer and a length: bytes size; `const` is what is only read.
 /extern "C" fn a72_/ || /^    pub fn a72_/ || /^(void|uint64_t) a72_/ { text = ""; on = 1 }
 on {
@@ -21,8 +21,9 @@ function print_one(t, name, result, i, n, part) {
 
 function type_of(p, only) {
     only = p ~ /: &(\[|Saved)/ || p ~ /\*const/ || p ~ /^ *const / ? "const-" : ""
+    if (p ~ /ClusterHandle|a72_cluster \*/) return only "cluster"
     if (p ~ /Handle|a72_core/) return only "core"
-    if (p ~ /void|Core/) return only "memory"
+    if (p ~ /void|Core|Cluster/) return only "memory"
     if (p ~ /State|Saved|A72_WORDS/) return only "saved"
     if (p ~ /: &mut Report|: \*mut Answer|a72_answer \*/) return only "answer"
     if (p ~ /struct a72_(pending|hint) /) return only "words2"

@@ -10,6 +10,7 @@ use call_words::reply::Report;
 use cpu::Core;
 
 /// The translation of `va` for an access of a kind: 1 read, 2 write, 4 fetch.
+#[inline(always)]
 pub fn translate(
     core: &mut Core,
     va: u64,
@@ -25,6 +26,7 @@ pub fn translate(
 }
 
 /// Where a data read of `va` goes.
+#[inline(always)]
 pub fn data_pa(core: &mut Core, va: u64, ans: &mut Report, base: u64, ram: &[u8]) -> u64
     ensures { Promise (DecodedCall.Known (Call.DataPa va)) base ram.now core.old result
         ans.old ans.new ram.now core.new }
@@ -33,6 +35,7 @@ pub fn data_pa(core: &mut Core, va: u64, ans: &mut Report, base: u64, ram: &[u8]
 }
 
 /// Where a fetch of `va` goes.
+#[inline(always)]
 pub fn fetch_pa(core: &mut Core, va: u64, ans: &mut Report, base: u64, ram: &[u8]) -> u64
     ensures { Promise (DecodedCall.Known (Call.FetchPa va)) base ram.now core.old result
         ans.old ans.new ram.now core.new }
@@ -41,6 +44,7 @@ pub fn fetch_pa(core: &mut Core, va: u64, ans: &mut Report, base: u64, ram: &[u8
 }
 
 /// A load of 1, 2, 4 or 8 bytes.
+#[inline(always)]
 pub fn load(core: &mut Core, va: u64, size: u64, ans: &mut Report, base: u64, ram: &[u8]) -> u64
     ensures { Promise (DecodedCall.Known (Call.Load va size)) base ram.now core.old result
         ans.old ans.new ram.now core.new }
@@ -49,6 +53,7 @@ pub fn load(core: &mut Core, va: u64, size: u64, ans: &mut Report, base: u64, ra
 }
 
 /// A store of the low 1, 2, 4 or 8 bytes of a value.
+#[inline(always)]
 pub fn store(
     core: &mut Core,
     va: u64,
@@ -65,6 +70,7 @@ pub fn store(
 }
 
 /// The instruction at `va`.
+#[inline(always)]
 pub fn fetch(core: &mut Core, va: u64, ans: &mut Report, base: u64, ram: &[u8]) -> u64
     ensures { Promise (DecodedCall.Known (Call.Fetch va)) base ram.now core.old result
         ans.old ans.new ram.now core.new }

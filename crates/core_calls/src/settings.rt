@@ -9,6 +9,7 @@ use call_words::op::DecodedException;
 use cpu::Core;
 
 /// A register write, by the register's key.
+#[inline(always)]
 pub fn register(core: &mut Core, key: u64, value: u64) -> u64
     ensures { Setting (DecodedCall.Known (Call.Register (key_of key) value)) core.old result core.new }
 {
@@ -16,6 +17,7 @@ pub fn register(core: &mut Core, key: u64, value: u64) -> u64
 }
 
 /// The present level, 0 to 3.
+#[inline(always)]
 pub fn level(core: &mut Core, level: u64) -> u64
     ensures { Setting (DecodedCall.Known (Call.Level level)) core.old result core.new }
 {
@@ -23,6 +25,7 @@ pub fn level(core: &mut Core, level: u64) -> u64
 }
 
 /// A general register, X0 to X30; 31 takes nothing.
+#[inline(always)]
 pub fn general(core: &mut Core, number: u64, value: u64) -> u64
     ensures { Setting (DecodedCall.Known (Call.General number value)) core.old result core.new }
 {
@@ -30,6 +33,7 @@ pub fn general(core: &mut Core, number: u64, value: u64) -> u64
 }
 
 /// The mark of unprivileged accesses, 0 or 1.
+#[inline(always)]
 pub fn mark(core: &mut Core, mark: u64) -> u64
     ensures { Setting (mark_call mark) core.old result core.new }
 {
@@ -37,6 +41,7 @@ pub fn mark(core: &mut Core, mark: u64) -> u64
 }
 
 /// Abort entry, of an exception in four words.
+#[inline(always)]
 pub fn abort(core: &mut Core, exception: &[u64; 4]) -> u64
     ensures { Setting (abort_call (exception_at exception.now)) core.old result core.new }
 {

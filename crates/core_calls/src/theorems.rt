@@ -21,8 +21,8 @@ pub fn windows_in_numbers()
 
 /// After every list of calls a flip is what the core without a cache finds, by the kind and the view that words name,
 /// and the answer that a bit may change is that core's to a translation in that view; in a list of calls it is a step
-/// that misses the same checks. Rules out a flip that asks the cache, and an answer judged by the level's own view or the
-/// mark. What is found is one for every kind and view (`flip::theorems::first_descriptor`).
+/// that misses the same checks. Rules out a flip that asks the cache, and an answer judged by the level's own view or
+/// the mark. What is found is one for every kind and view (`flip::theorems::first_descriptor`).
 pub fn every_flip()
     ensures after { flip_after }
     ensures words { flip_by_words }

@@ -3,5 +3,6 @@
 // others see exports nothing, so the exports stand alone here.
 mod calls;
 mod cycles;
+mod four;
 mod parts;
 mod state;

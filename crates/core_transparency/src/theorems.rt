@@ -1,8 +1,8 @@
 // What is proved of every list of calls: each function does nothing, and its contract is the theorem. `Made` says
 // that a core was as after reset, and then calls changed it, each as its contract promises.
 ghost use Rattle.core_transparency.specs.OnCore.{made_is_core};
-ghost use Rattle.core_transparency.specs.OnCore.{faithful_on_core, faithful_step_on_core, counts_on_core, windows_on_core};
-ghost use Rattle.core_transparency.specs.OnCore.{flip_on_core};
+ghost use Rattle.core_transparency.specs.OnCore.{faithful_on_core, faithful_step_on_core, counts_on_core};
+ghost use Rattle.core_transparency.specs.OnCore.{windows_on_core, flip_on_core};
 ghost use Rattle.core_transparency.specs.Counters.{hits_on_core, walks_on_core, sums_on_core};
 ghost use Rattle.core_transparency.specs.Reads.{reads_on_core, step_reads_on_core};
 ghost use Rattle.core_transparency.specs.Whole.{call_keeps_whole, made_is_whole, made_is_saved};

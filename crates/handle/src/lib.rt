@@ -1,6 +1,6 @@
 #![tactic(auto)]
-// The handle of a core: what a caller in another language holds of it, and the one place where a raw pointer is
-// followed.
+// The handles of a core and of a cluster: what a caller in another language holds of them, and the two places where a
+// raw pointer is followed.
 ghost use Rattle.std.specs.Prelude.{◌≡◌};
 ghost use Rattle.std.specs.Borrow.{full_share};
 ghost use Rattle.std.specs.Ptr.{lies_at};
@@ -8,7 +8,10 @@ ghost use types.Logic.{sem};
 ghost use Rattle.cpu.specs.declared.Core.{Core};
 ghost use Rattle.cpu.specs.contracts.Core.{the_row as core_row};
 
+mod four;
+
 use cpu::Core;
+pub use four::ClusterHandle;
 use std::marker::Model;
 
 /// The address of a core in memory that the caller keeps. The core that lies there is the handle's own: nothing else

@@ -187,6 +187,7 @@ fn asked(core: &mut Core, va: u64, ans: &mut Report, base: u64, ram: &[u8]) -> u
 }
 
 /// The instruction at va.
+#[inline(always)]
 pub fn fetch(core: &mut Core, va: u64, ans: &mut Report, base: u64, ram: &[u8]) -> u64
     ensures { Tells (step_of core.old base ram.now (Call.Fetch va))
         (step_work core.old base ram.now (Call.Fetch va) no_work) ans.old result ans.new core.new }
@@ -212,6 +213,7 @@ fn rest(core: &mut Core, va: u64, ans: &mut Report, base: u64, ram: &[u8]) -> u6
 }
 
 /// Where a fetch of va goes, by the same hint, which a new page refreshes.
+#[inline(always)]
 pub fn fetch_pa(core: &mut Core, va: u64, ans: &mut Report, base: u64, ram: &[u8]) -> u64
     ensures { Tells (step_of core.old base ram.now (Call.FetchPa va))
         (step_work core.old base ram.now (Call.FetchPa va) no_work) ans.old result ans.new core.new }

@@ -171,6 +171,7 @@ fn load_as<W: Datum>(core: &mut Core, va: u64, ans: &mut Report, base: u64, ram:
 }
 
 /// A load of 1, 2, 4 or 8 bytes. The tests come in this order for the sake of the commonest size.
+#[inline(always)]
 pub fn load(core: &mut Core, va: u64, size: u64, ans: &mut Report, base: u64, ram: &[u8]) -> u64
     ensures { Tells (step_of core.old base ram.now (Call.Load va size))
         (step_work core.old base ram.now (Call.Load va size) no_work) ans.old result ans.new core.new }

@@ -10,6 +10,7 @@ use exception::kind::Exception;
 use sysreg::write::WriteError;
 
 /// A register write, by the register's key.
+#[inline(always)]
 pub fn register(core: &mut Core, key: u64, value: u64) -> u64
     ensures { Sets (DecodedCall.Known (Call.Register (key_of key) value)) core.old result core.new }
 {
@@ -24,6 +25,7 @@ pub fn register(core: &mut Core, key: u64, value: u64) -> u64
 }
 
 /// The present level, 0 to 3.
+#[inline(always)]
 pub fn level(core: &mut Core, level: u64) -> u64
     ensures { Sets (DecodedCall.Known (Call.Level level)) core.old result core.new }
 {
@@ -38,6 +40,7 @@ pub fn level(core: &mut Core, level: u64) -> u64
 }
 
 /// The mark of unprivileged accesses, 0 or 1.
+#[inline(always)]
 pub fn mark(core: &mut Core, mark: u64) -> u64
     ensures { Sets (mark_call mark) core.old result core.new }
 {
@@ -52,6 +55,7 @@ pub fn mark(core: &mut Core, mark: u64) -> u64
 }
 
 /// A general register, X0 to X30; 31 takes nothing.
+#[inline(always)]
 pub fn general(core: &mut Core, number: u64, value: u64) -> u64
     ensures { Sets (DecodedCall.Known (Call.General number value)) core.old result core.new }
 {
@@ -69,6 +73,7 @@ pub fn general(core: &mut Core, number: u64, value: u64) -> u64
 }
 
 /// Abort entry.
+#[inline(always)]
 pub fn abort(core: &mut Core, e: Exception) -> u64
     ensures { Sets (DecodedCall.Known (Call.Abort e)) core.old result core.new }
 {

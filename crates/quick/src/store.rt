@@ -235,6 +235,7 @@ fn store_as<W: Datum>(
 }
 
 /// A store of the low 1, 2, 4 or 8 bytes of a value. The tests come in this order for the sake of the commonest size.
+#[inline(always)]
 pub fn store(
     core: &mut Core,
     va: u64,

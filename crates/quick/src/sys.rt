@@ -18,6 +18,7 @@ use tlb::work::Work;
 use word::ram;
 
 // 64 zero bytes at the line va by its page's hint, where it points at a line of RAM, and whether they are written.
+#[inline(always)]
 fn clear(core: &Core, base: u64, ram: &mut [u8], va: u64) -> bool
     requires line { va % 64 ≡ 0 }
     requires room { va + 64 ≤ 2 ^ 64 }
@@ -30,6 +31,7 @@ fn clear(core: &Core, base: u64, ram: &mut [u8], va: u64) -> bool
 }
 
 // DC ZVA: by one hint, or by its eight stores.
+#[inline(always)]
 fn zva(core: &mut Core, ans: &mut Report, base: u64, ram: &mut [u8], x: u64) -> u64
     ensures tells { Tells (after_store (zero_of 8 core.old base ram.old (align_down x 6)))
         (zero_work 8 core.old base ram.old (align_down x 6) no_work) ans.old result ans.new core.new }
@@ -53,6 +55,7 @@ fn tlbi(core: &mut Core, e: Encoding, x: u64)
 }
 
 // The operation past its checks.
+#[inline(always)]
 #[tactic(auto, unfolding(cpu::specs::System::sys_of, cpu::specs::System::sys_ram, cpu::specs::Work::sys_work))]
 fn operate(core: &mut Core, e: Encoding, ans: &mut Report, base: u64, ram: &mut [u8]) -> u64
     ensures tells { Tells (after_store (sys_of core.old base ram.old e.op1 e.crn e.crm e.op2 e.rt))
@@ -83,6 +86,7 @@ fn operate(core: &mut Core, e: Encoding, ans: &mut Report, base: u64, ram: &mut 
 }
 
 /// A system operation: SYS op1, CRn, CRm, op2 with the register rt.
+#[inline(always)]
 pub fn system(
     core: &mut Core,
     op1: u64,

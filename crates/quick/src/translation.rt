@@ -158,6 +158,7 @@ fn data_rest(core: &mut Core, va: u64, ans: &mut Report, base: u64, ram: &[u8]) 
 }
 
 /// Where a data read of va goes.
+#[inline(always)]
 pub fn data_pa(core: &mut Core, va: u64, ans: &mut Report, base: u64, ram: &[u8]) -> u64
     ensures { Tells (step_of core.old base ram.now (Call.DataPa va))
         (step_work core.old base ram.now (Call.DataPa va) no_work) ans.old result ans.new core.new }
@@ -205,7 +206,45 @@ fn kind_asked(core: &mut Core, va: u64, kind: u64, ans: &mut Report, base: u64, 
     }
 }
 
+#[inline(never)]
+fn address_apart<P: Purpose>(
+    core: &mut Core,
+    va: u64,
+    ans: &mut Report,
+    base: u64,
+    ram: &[u8],
+) -> u64
+    requires not_served { served core.old base (length ram.now) va (Ok P.KIND) ≡ None }
+    ensures { Tells (step_of core.old base ram.now (Call.Translate P.KIND va))
+        (step_work core.old base ram.now (Call.Translate P.KIND va) no_work) ans.old result ans.new core.new }
+{
+    address::<P>(core, va, ans, base, ram)
+}
+
+// By kind, with six words to hand on.
+#[inline(always)]
+#[tactic(auto, unfolding(call_words::specs::Ops::translate_call))]
+fn by_kind(core: &mut Core, va: u64, kind: u64, ans: &mut Report, base: u64, ram: &[u8]) -> u64
+    requires not_served { served core.old base (length ram.now) va (kind_of kind) ≡ None }
+    ensures { Says (translate_call (kind_of kind) va) core.old base ram.now ans.old result ans.new core.new }
+{
+    if kind < 2 {
+        if kind == 1 {
+            address_apart::<Reading>(core, va, ans, base, ram)
+        } else {
+            64
+        }
+    } else if kind == 2 {
+        address_apart::<Writing>(core, va, ans, base, ram)
+    } else if kind == 4 {
+        address_apart::<Fetching>(core, va, ans, base, ram)
+    } else {
+        64
+    }
+}
+
 /// The translation of va for an access of a kind: 1 read, 2 write, 4 fetch.
+#[inline(always)]
 #[tactic(auto, unfolding(call_words::specs::Ops::translate_call))]
 pub fn translate(
     core: &mut Core,
@@ -226,5 +265,30 @@ pub fn translate(
             0
         }
         None => kind_asked(core, va, kind, ans, base, ram),
+    }
+}
+
+/// The same for a caller whose arguments come in another order: what no hint serves is told by kind in line.
+#[inline(always)]
+#[tactic(auto, unfolding(call_words::specs::Ops::translate_call))]
+pub fn translate_by_kind(
+    core: &mut Core,
+    va: u64,
+    kind: u64,
+    ans: &mut Report,
+    base: u64,
+    ram: &[u8],
+) -> u64
+    ensures { Says (translate_call (kind_of kind) va) core.old base ram.now ans.old result ans.new core.new }
+{
+    match hint::served(core, va, kind, base, ram.len() as u64) {
+        Some(pa) => {
+            *ans = Report {
+                value: pa,
+                reads: 0,
+            };
+            0
+        }
+        None => by_kind(core, va, kind, ans, base, ram),
     }
 }

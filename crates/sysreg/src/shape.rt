@@ -14,6 +14,7 @@ fn same_levels(a: &[u64; 4], b: &[u64; 4]) -> bool
 impl Control {
     /// Whether the registers that decide what the TLB holds are the same: all that translation reads, but for the
     /// EL1&0 regime's TTBRs, which the entries' ASID covers.
+    #[inline(always)]
     #[tactic(auto, unfolding(crate::specs::Shape::same_shape))]
     pub fn same_shaping(&self, other: &Control) -> bool
         ensures { result ≡ same_shape self.now other.now }

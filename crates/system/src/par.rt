@@ -36,6 +36,7 @@ fn fault_par(fsc: u8) -> u64
 }
 
 // A leaf: its page and attributes, or a permission fault of its level.
+#[inline(always)]
 #[tactic(auto, unfolding(crate::specs::Par::leaf_par), using(crate::proofs::Words::permission_status))]
 fn leaf_par(mair: u64, ns: bool, form: AtForm, leaf: Leaf) -> u64
     requires { leaf.level ≤ 3 }

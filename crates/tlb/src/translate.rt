@@ -15,6 +15,7 @@ use sysreg::regs::Regime;
 
 impl Tlb {
     /// Where the data hint sends an access, if one serves.
+    #[inline(always)]
     pub fn by_hint(&self, privilege: Privilege, va: u64, kind: Kind) -> Option<u64>
         ensures { result ≡ hint_in privilege va kind self.now }
     {

@@ -17,6 +17,7 @@ pub fn flat_of(untagged: u64) -> Option<u64>
 
 impl Bank {
     /// The physical address of `va`, tag and all, with stage 1 off.
+    #[inline(always)]
     pub fn flat(&self, regime: Regime, va: u64) -> Option<u64>
         ensures { result ≡ flat_by (untagged self.now.tcr regime va) }
     {

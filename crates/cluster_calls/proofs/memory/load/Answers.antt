@@ -1,0 +1,8 @@
+use Rattle.std.proofs.Common.{rules}
+use Rattle.cluster_calls.proofs.OnCore.{quiet-core}
+use Rattle.cluster_calls.proofs.Quiet.{load-quiet}
+use Rattle.cluster_calls.proofs.memory.load.Goals as goal
+
+pub returns-then-is_quiet : goal.returns-then-is_quiet
+returns-then-is_quiet c =
+    quiet-core _ _ _ _ c.args.n _ (search rules) (load-quiet c.args.va c.args.size) _ c.is_quiet.ensures (search rules) _ _ _ _ _ c.load.ensures
