@@ -1,10 +1,12 @@
-//! A core in memory of its own. `include/a72.h` says what that memory is: the core's address, and after it the core.
+//! A state in memory of its own, and a core there. `include/a72.h` says what that memory is: the address of the state, and
+//! after it the state.
 #![allow(unsafe_code)]
 
 use super::library::{a72_init_at, a72_restore, a72_save, Handle};
 use super::place::{State, WORDS};
+use std::alloc::{alloc_zeroed, handle_alloc_error, Layout};
 use std::ffi::c_void;
-use std::ptr::{addr_of_mut, copy_nonoverlapping, null_mut, NonNull};
+use std::ptr::{addr_of_mut, copy_nonoverlapping, NonNull};
 
 /// The bytes of a core's memory.
 pub const CORE_SIZE: usize = 41744;
@@ -13,42 +15,56 @@ pub const CORE_ALIGN: usize = 8;
 /// The bytes of the core's address.
 pub const HANDLE_SIZE: usize = 8;
 
-/// What a core of the library lies in.
+/// What a state of the library lies in, of so many words: its address, and after it the state.
 #[repr(C)]
-struct Memory {
-    handle: Handle,
-    core: [u64; (CORE_SIZE - HANDLE_SIZE) / 8],
+pub struct Memory<const WORDS: usize> {
+    at: *mut c_void,
+    state: [u64; WORDS],
 }
 
-const _: () = assert!(size_of::<Memory>() == CORE_SIZE && align_of::<Memory>() == CORE_ALIGN);
+/// The words in a core's memory.
+const CORE: usize = (CORE_SIZE - HANDLE_SIZE) / 8;
 
-/// A core of the library. It owns its memory, which stays where it is.
-pub struct Held(NonNull<Memory>);
+const _: () = assert!(size_of::<Memory<CORE>>() == CORE_SIZE && align_of::<Memory<CORE>>() == CORE_ALIGN);
 
-// Sound: nobody else has the memory. A core is not `Sync`: the library takes it for its own as long as a call lasts,
+/// A state of the library. It owns its memory, which stays where it is.
+pub struct Owned<const WORDS: usize>(NonNull<Memory<WORDS>>);
+
+/// A core of the library.
+pub type Held = Owned<CORE>;
+
+// Sound: nobody else has the memory. A state is not `Sync`: the library takes it for its own as long as a call lasts,
 // also where it only reads.
-unsafe impl Send for Held {}
+unsafe impl<const WORDS: usize> Send for Owned<WORDS> {}
+
+impl<const WORDS: usize> Owned<WORDS> {
+    /// Memory in which the address stands and no state yet.
+    pub(super) fn room() -> Self {
+        let layout = Layout::new::<Memory<WORDS>>();
+        // Sound: it is not of no bytes, and zeros are such memory. Made here, it lies on no stack.
+        let zeros = unsafe { alloc_zeroed(layout) };
+        let Some(memory) = NonNull::new(zeros.cast::<Memory<WORDS>>()) else {
+            handle_alloc_error(layout)
+        };
+        // Sound: nobody else has the memory.
+        unsafe { (*memory.as_ptr()).at = addr_of_mut!((*memory.as_ptr()).state).cast() }
+        Owned(memory)
+    }
+
+    /// The state's own address.
+    pub(super) fn at(&self) -> *mut c_void {
+        // Sound: it is the memory of this state.
+        unsafe { (*self.0.as_ptr()).at }
+    }
+
+    /// The memory, as the library's functions take it.
+    #[inline(always)]
+    pub(super) fn memory(&self) -> *mut Memory<WORDS> {
+        self.0.as_ptr()
+    }
+}
 
 impl Held {
-    /// Memory in which the core's address stands and no core yet.
-    fn room() -> Held {
-        let memory = Box::into_raw(Box::new(Memory {
-            handle: Handle { at: null_mut() },
-            core: [0; (CORE_SIZE - HANDLE_SIZE) / 8],
-        }));
-        // Sound: the box's memory, which nobody else has.
-        unsafe {
-            (*memory).handle.at = addr_of_mut!((*memory).core).cast();
-            Held(NonNull::new_unchecked(memory))
-        }
-    }
-
-    /// The core's own address.
-    fn at(&self) -> *mut c_void {
-        // Sound: it is the memory of this core.
-        unsafe { (*self.0.as_ptr()).handle.at }
-    }
-
     /// A core out of reset.
     pub fn new() -> Held {
         let held = Held::room();
@@ -60,7 +76,7 @@ impl Held {
     /// What the library's functions take.
     #[inline(always)]
     pub fn handle(&self) -> *mut Handle {
-        self.0.as_ptr().cast()
+        self.memory().cast()
     }
 
     /// The core's words, into an array.
@@ -83,18 +99,18 @@ impl Held {
     }
 }
 
-impl Clone for Held {
-    fn clone(&self) -> Held {
-        let held = Held::room();
-        // Sound: a core holds no address, so that its bytes are the core; the two lie apart.
-        unsafe { copy_nonoverlapping(self.at(), held.at(), CORE_SIZE - HANDLE_SIZE) }
+impl<const WORDS: usize> Clone for Owned<WORDS> {
+    fn clone(&self) -> Self {
+        let held = Self::room();
+        // Sound: a state holds no address, so that its bytes are the state; the two lie apart.
+        unsafe { copy_nonoverlapping(self.at(), held.at(), 8 * WORDS) }
         held
     }
 }
 
-impl Drop for Held {
+impl<const WORDS: usize> Drop for Owned<WORDS> {
     fn drop(&mut self) {
-        // Sound: it came from a box, and nobody else has it.
+        // Sound: it was allocated as a box's, and nobody else has it.
         drop(unsafe { Box::from_raw(self.0.as_ptr()) })
     }
 }

@@ -1,7 +1,7 @@
 //! The core of `bindings/rust` over the proved static library `liba72abi.a`, by the functions of `include/a72.h`: the
 //! same types and methods, but for `walk`, `fresh_answer`, `fresh_answer_with`, and `Memory` with what takes one.
-//! What is at hand without RAM is always `None`, and a [`Core`] is not `Sync`. What runs here is the code that the
-//! Rattle compiler made.
+//! What is at hand without RAM is always `None`, [`Cluster::core`] gives a copy, and neither a [`Core`] nor a [`Cluster`] is
+//! `Sync`. What runs here is the code that the Rattle compiler made.
 //!
 //! # Example
 //!
@@ -18,12 +18,14 @@
 //! ```
 #![deny(unsafe_code)]
 #![warn(missing_docs)]
+mod cluster;
 mod core;
 mod edit;
 mod flip;
 mod frames;
 // The oracle has `held` and `library` too, and uses all of them.
 mod held;
+mod held_cluster;
 #[allow(dead_code)]
 mod library;
 mod raw;
@@ -31,6 +33,7 @@ mod view;
 mod windows;
 mod words;
 
+pub use crate::cluster::Cluster;
 pub use crate::core::Core;
 pub use crate::edit::Edit;
 pub use crate::frames::Rate;

@@ -1,11 +1,17 @@
-//! The functions of liba72abi.a; `include/a72.h` says what each does. A core is a pointer to its handle; an array is
-//! one pointer, a struct of words too, RAM a pointer and its length.
+//! The functions of liba72abi.a; `include/a72.h` says what each does. A core is a pointer to its handle, a cluster too; an
+//! array is one pointer, a struct of words too, RAM a pointer and its length.
 use super::place::State;
 use std::ffi::c_void;
 
 /// What stands before a core in its memory: the core's address.
 #[repr(C)]
 pub struct Handle {
+    pub at: *mut c_void,
+}
+
+/// What stands before the four cores of a cluster in its memory: their address.
+#[repr(C)]
+pub struct ClusterHandle {
     pub at: *mut c_void,
 }
 
@@ -162,4 +168,123 @@ extern "C" {
     pub fn a72_get_fetch_hint(core: *mut Handle, hint: *mut [u64; 4]);
     pub fn a72_frames_48000(cycles: u64, left: *mut u64) -> u64;
     pub fn a72_frames_44100(cycles: u64, left: *mut u64) -> u64;
+    pub fn a72_cluster_init_at(at: *mut c_void);
+    pub fn a72_cluster_get(cluster: *mut ClusterHandle, n: u64, out: *mut Handle) -> u64;
+    pub fn a72_cluster_put(cluster: *mut ClusterHandle, n: u64, from: *mut Handle) -> u64;
+    pub fn a72_cluster_translate(
+        cluster: *mut ClusterHandle,
+        n: u64,
+        va: u64,
+        kind: u64,
+        answer: *mut Answer,
+        base: u64,
+        ram: *const u8,
+        len: usize,
+    ) -> u64;
+    pub fn a72_cluster_data_pa(
+        cluster: *mut ClusterHandle,
+        n: u64,
+        va: u64,
+        answer: *mut Answer,
+        base: u64,
+        ram: *const u8,
+        len: usize,
+    ) -> u64;
+    pub fn a72_cluster_fetch_pa(
+        cluster: *mut ClusterHandle,
+        n: u64,
+        va: u64,
+        answer: *mut Answer,
+        base: u64,
+        ram: *const u8,
+        len: usize,
+    ) -> u64;
+    pub fn a72_cluster_load(
+        cluster: *mut ClusterHandle,
+        n: u64,
+        va: u64,
+        size: u64,
+        answer: *mut Answer,
+        base: u64,
+        ram: *const u8,
+        len: usize,
+    ) -> u64;
+    pub fn a72_cluster_store(
+        cluster: *mut ClusterHandle,
+        n: u64,
+        va: u64,
+        size: u64,
+        value: u64,
+        answer: *mut Answer,
+        base: u64,
+        ram: *mut u8,
+        len: usize,
+    ) -> u64;
+    pub fn a72_cluster_fetch(
+        cluster: *mut ClusterHandle,
+        n: u64,
+        va: u64,
+        answer: *mut Answer,
+        base: u64,
+        ram: *const u8,
+        len: usize,
+    ) -> u64;
+    pub fn a72_cluster_system(
+        cluster: *mut ClusterHandle,
+        n: u64,
+        op1: u64,
+        crn: u64,
+        crm: u64,
+        op2: u64,
+        rt: u64,
+        answer: *mut Answer,
+        base: u64,
+        ram: *mut u8,
+        len: usize,
+    ) -> u64;
+    pub fn a72_cluster_register(cluster: *mut ClusterHandle, n: u64, key: u64, value: u64) -> u64;
+    pub fn a72_cluster_level(cluster: *mut ClusterHandle, n: u64, level: u64) -> u64;
+    pub fn a72_cluster_mark(cluster: *mut ClusterHandle, n: u64, mark: u64) -> u64;
+    pub fn a72_cluster_general(cluster: *mut ClusterHandle, n: u64, number: u64, value: u64) -> u64;
+    pub fn a72_cluster_abort(cluster: *mut ClusterHandle, n: u64, exception: *const [u64; 4]) -> u64;
+    pub fn a72_cluster_census(
+        cluster: *mut ClusterHandle,
+        n: u64,
+        first: u64,
+        pages: u64,
+        counts: *mut [u64; 129],
+        base: u64,
+        ram: *const u8,
+        len: usize,
+    ) -> u64;
+    pub fn a72_cluster_windows(
+        cluster: *mut ClusterHandle,
+        n: u64,
+        list: *const u8,
+        list_len: usize,
+        out: *mut [u64; 3],
+        base: u64,
+        ram: *const u8,
+        len: usize,
+    ) -> u64;
+    pub fn a72_cluster_flip(
+        cluster: *mut ClusterHandle,
+        n: u64,
+        va: u64,
+        kind: u64,
+        user: u64,
+        out: *mut [u64; 3],
+        base: u64,
+        ram: *mut u8,
+        len: usize,
+    ) -> u64;
+    pub fn a72_cluster_step(
+        op: *const [u64; 8],
+        cluster: *mut ClusterHandle,
+        n: u64,
+        base: u64,
+        ram: *mut u8,
+        len: usize,
+        answer: *mut [u64; 5],
+    ) -> u64;
 }

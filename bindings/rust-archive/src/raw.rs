@@ -7,6 +7,8 @@ use crate::library::{self, Answer};
 use plain::count::{Counts, COUNTS};
 use plain::number::DONE;
 
+pub mod cluster;
+
 // Why each call below is sound: the library reads and writes the core's memory, the bytes of `ram` up to the length
 // beside it, and the answer or the array it answers in, and keeps no pointer. The core has its memory for
 // itself and is not `Sync`, so that no other call uses it; the others come from references that live through the

@@ -20,6 +20,18 @@ fn error(number: u64, [window, page, status]: [u64; 3], list: &[u8]) -> WindowsE
     }
 }
 
+/// The answer by what the library gave.
+pub(crate) fn found(
+    (number, out): (u64, [u64; 3]),
+    list: &[u8],
+) -> Result<Option<(usize, usize)>, WindowsError> {
+    let [found, first, second] = out;
+    match number {
+        DONE => Ok((found == 1).then_some((first as usize, second as usize))),
+        n => Err(error(n, out, list)),
+    }
+}
+
 impl Core {
     /// The first two windows, by the lower number and then the higher, that have a physical page in common; `None` where
     /// no two have. A page that lies twice in one window does not count.
@@ -33,9 +45,6 @@ impl Core {
 
     /// [`Self::windows`] of a list's bytes, as a file has them. They may be any: what is no list is an error.
     pub fn windows_of_bytes(&self, ram: &Ram, list: &[u8]) -> Result<Option<(usize, usize)>, WindowsError> {
-        match raw::windows(&self.held, list, ram.base, ram.bytes) {
-            (DONE, [found, first, second]) => Ok((found == 1).then_some((first as usize, second as usize))),
-            (n, out) => Err(error(n, out, list)),
-        }
+        found(raw::windows(&self.held, list, ram.base, ram.bytes), list)
     }
 }

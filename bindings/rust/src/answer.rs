@@ -29,18 +29,20 @@ pub enum Check {
     Key,
     /// 7: a census of more than [`crate::MOST_PAGES`] pages, or of a range that passes 2^64.
     Range,
+    /// 8: the number of a core of a [`crate::Cluster`] is above 3.
+    Core,
 }
 
 impl Check {
-    /// The number of the check, 1 to 7.
+    /// The number of the check, 1 to 8.
     pub fn number(self) -> u64 {
         self as u64
     }
 
-    /// The check of this number, 1 to 7.
+    /// The check of this number, 1 to 8.
     pub fn from_number(number: u64) -> Option<Check> {
         use Check::*;
-        [Level, Window, Size, Field, Number, Key, Range]
+        [Level, Window, Size, Field, Number, Key, Range, Core]
             .into_iter()
             .find(|check| check.number() == number)
     }
@@ -93,6 +95,11 @@ pub enum Stop {
 }
 
 impl Stop {
+    /// Whether the call was refused, by a check or as undefined or unimplemented: it changed nothing.
+    pub(crate) fn refuses(&self) -> bool {
+        !matches!(self, Stop::Fault(_))
+    }
+
     /// The exception that the guest takes for it, if it is one.
     pub fn exception(&self) -> Option<Exception> {
         match self {
@@ -151,6 +158,13 @@ impl Stop {
             UNDEFINED => Stop::Undefined,
             n => Stop::not_done(n),
         }
+    }
+}
+
+impl From<Check> for Stop {
+    #[inline]
+    fn from(missed: Check) -> Stop {
+        Stop::Refused(missed)
     }
 }
 

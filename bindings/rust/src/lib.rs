@@ -78,6 +78,7 @@ mod at_once;
 #[cfg(feature = "alloc")]
 mod boxed;
 mod census;
+mod cluster;
 mod core;
 pub mod count;
 #[doc = include_str!("../EMBEDDING.md")]
@@ -103,6 +104,7 @@ pub use answer::{Check, Fault, Report, Stop};
 #[cfg(feature = "alloc")]
 pub use boxed::Edit;
 pub use census::{Census, Rights};
+pub use cluster::Cluster;
 pub use count::MOST_PAGES;
 pub use memory::Memory;
 pub use operation::{Access, Exception, Level, Status, View, Width};

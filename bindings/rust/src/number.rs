@@ -7,7 +7,7 @@ pub const DONE: u64 = 0;
 pub const CHECK_LIST: u64 = 9;
 /// A page of a list of windows faults.
 pub const PAGE_FAULTS: u64 = 10;
-/// The last number of a check; the first is 1, and 1 to 7, 9 and 10 are there.
+/// The last number of a check; the first is 1, and 1 to 10 are there.
 pub const LAST_CHECK: u64 = 63;
 /// A word names nothing: an operation's code, a kind of access, a mark, an exception or a part of one.
 pub const NAMES_NOTHING: u64 = 64;

@@ -158,7 +158,7 @@ pub struct PageFault {
 /// Why [`Core::windows`] has no answer.
 #[derive(Clone, Copy, Debug, PartialEq, Eq)]
 pub enum WindowsError {
-    /// The call misses a check, [`Check::Level`] or [`Check::Window`], that of the window of RAM.
+    /// The call misses a check: [`Check::Level`], [`Check::Window`], that of the window of RAM, or [`Check::Core`].
     Refused(Check),
     /// The bytes are no list of windows.
     List(Malformed),
@@ -167,13 +167,19 @@ pub enum WindowsError {
 }
 
 impl WindowsError {
-    /// Its number: 1 or 2 of a check, 9 of a list, 10 of a page.
+    /// Its number: 1, 2 or 8 of a check, 9 of a list, 10 of a page.
     pub fn number(&self) -> u64 {
         match self {
             WindowsError::Refused(check) => check.number(),
             WindowsError::List(_) => CHECK_LIST,
             WindowsError::Page(_) => PAGE_FAULTS,
         }
+    }
+}
+
+impl From<Check> for WindowsError {
+    fn from(missed: Check) -> WindowsError {
+        WindowsError::Refused(missed)
     }
 }
 

@@ -23,6 +23,8 @@
 
 pub mod call_words;
 pub mod census;
+#[cfg(test)]
+pub mod cluster;
 pub mod core_parts;
 pub mod cpu;
 pub mod exception;

@@ -1,5 +1,5 @@
 // Written by tools/plain from crates/cpu/src/check.rt: change that.
-//! The checks 1 to 7 of docs/SCOPE.md, each call's from top to bottom.
+//! The checks 1 to 8 of docs/SCOPE.md, each call's from top to bottom; of several cores 8 comes before all.
 
 use crate::stage1::cpu::call::Call;
 use crate::stage1::sysreg::encoding;
@@ -23,10 +23,12 @@ pub enum Check {
     Key,
     /// a census has at most 65,536 pages, and its range ends at 2^64 or before
     Pages,
+    /// of several cores, a core's number is at most 3
+    Core,
 }
 
 impl Check {
-    /// Its number, 1 to 7.
+    /// Its number, 1 to 8.
     #[inline]
     pub fn number(self) -> u8 {
         self as u8
@@ -52,6 +54,12 @@ pub fn number_missed<T: Copy>(checked: Result<T, Check>) -> u8 {
 #[inline]
 pub fn past_end(base: u64, len: u64) -> bool {
     u64::MAX - len < base && u64::MAX - base + 1 < len
+}
+
+/// The place among four cores of the one that has a number.
+#[inline]
+pub fn core(n: u64) -> Result<usize, Check> {
+    if 3 < n { Err(Check::Core) } else { Ok(n as usize) }
 }
 
 /// Whether a census has more than 65,536 pages, or its range passes 2^64.

@@ -25,6 +25,17 @@ impl Reply {
             None => Reply::Faults,
         }
     }
+
+    /// Whether the call was refused, by a check or as Undefined or Unimplemented: then it changed nothing.
+    #[inline]
+    pub fn refuses(self) -> bool {
+        matches!(
+            self,
+            Reply::Refused(_)
+                | Reply::Stopped(Stop::Unimplemented)
+                | Reply::Stopped(Stop::Exception(Exception::Undefined))
+        )
+    }
 }
 
 /// Of a call that misses a check.
