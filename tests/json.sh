@@ -65,6 +65,11 @@ for t in tests/*.trace; do
     MORE=3 same census "$t" 0 10000
 done
 same audit tests/audit.trace
+same run tests/cores.trace
+same run tests/cores.trace --words --full
+printf 'core ffffffffffffffff\ntr 1 0\nlevel 1\ncore 3\nlevel 1\n' >"$work/trace"
+same run "$work/trace"
+same run "$work/trace" --short
 MORE=3 same reads tests/instrument.trace
 for range in '0 21' '123 0' '0 400 3' '0 400 2'; do
     # shellcheck disable=SC2086
@@ -72,7 +77,7 @@ for range in '0 21' '123 0' '0 400 3' '0 400 2'; do
 done
 printf 'w-word 1455 ffffffffffffffff\nw-word 1459 ffffffffffffffff\nw-word 1458 1\n' >"$work/trace"
 MORE=4 same counters "$work/trace"
-MORE=16 same chord
+MORE=24 same chord
 for total in 0 1 31250 34014 1500034014 9007199254740991 9007199254740992 18446744073709551615; do
     same frames $total
     same frames $total 48000

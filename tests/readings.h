@@ -1,4 +1,4 @@
-/* What tests/readers.c, tests/windows.c and tests/flip.c share: RAM with tables, a core that uses them, and how many
+/* What tests/readers.c, windows.c, flip.c and cluster.c share: RAM with tables, a core that uses them, and how many
  * readings were as they must be. */
 #include "a72.h"
 

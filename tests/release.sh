@@ -18,7 +18,7 @@ unset A72_LIB
 ! command -v rt >/dev/null || { echo "release.sh: rt is in PATH beside cargo or the C compiler"; exit 1; }
 
 (cd bindings/rust && cargo test --offline && RUSTDOCFLAGS='-D warnings' cargo doc --offline --no-deps) >"$work/cargo" 2>&1 || { cat "$work/cargo"; exit 1; }
-(cd bindings/rust-archive && cargo test --offline) >"$work/archive" 2>&1 || { cat "$work/archive"; exit 1; }
+(cd bindings/rust-archive && cargo test --offline && RUSTDOCFLAGS='-D warnings' cargo doc --offline --no-deps) >"$work/archive" 2>&1 || { cat "$work/archive"; exit 1; }
 # serde itself is not packed: cargo reads what the crate over it states.
 (cd bindings/rust-serde && cargo metadata --no-deps --offline --format-version 1) >"$work/serde" 2>&1 || { cat "$work/serde"; exit 1; }
 grep -q '"name":"a72-serde"' "$work/serde" || { echo "release.sh: cargo does not read bindings/rust-serde"; exit 1; }
@@ -33,15 +33,18 @@ for file in $(grep -o 'docs/TRACES\.md\|tests/[a-z]*\.trace' docs/TOOL.md | sort
 done
 bin/a72 run tests/page.trace --short >"$work/ran"
 [ -s "$work/ran" ] || { echo "release.sh: bin/a72 carries out nothing"; exit 1; }
-for name in example embed; do
-    "${CC:-cc}" -Iinclude "bindings/c/$name.c" lib/liba72abi.a -o "$work/$name"
+examples=0
+for source in bindings/c/*.c; do
+    name=$(basename "$source" .c)
+    "${CC:-cc}" -Iinclude "$source" lib/liba72abi.a -o "$work/$name"
     "$work/$name" >"$work/$name.out"
     diff "bindings/c/$name.out" "$work/$name.out"
+    examples=$((examples + 1))
 done
 tools/install "$work/prefix" >/dev/null
 cmp lib/liba72abi.a "$work/prefix/lib/liba72abi.a"
-# Without the library the crate over it is checked, and says what is missing.
+# Without the library the crate over it is checked and documented, and says what is missing.
 rm -r lib
-(cd bindings/rust-archive && touch build.rs && cargo check --offline) >"$work/check" 2>&1 || { cat "$work/check"; exit 1; }
+(cd bindings/rust-archive && touch build.rs && cargo check --offline && cargo doc --offline --no-deps) >"$work/check" 2>&1 || { cat "$work/check"; exit 1; }
 grep -q 'liba72abi.a is missing' "$work/check" || { echo "release.sh: nothing says that the library is missing"; cat "$work/check"; exit 1; }
-echo "$tests tests and both examples pass from $(basename "$packed") alone"
+echo "$tests tests and $examples examples in C pass from $(basename "$packed") alone"

@@ -10,14 +10,20 @@ crates=${A72_CRATES-}
 [ -z "$crates" ] || crates=$(from_here "$crates")
 packages='serde serde-derive bincode syn quote proc-macro2 unicode-ident'
 
-# Debian's packages of the crates, as a folder of sources. Called where sh forgets -e.
+# Debian's packages of the crates, as a folder of sources; where the machine has no lists of packages, by lists of this run's own. Called where sh forgets -e.
 fetch() { # FOLDER
-    mkdir -p "$1/packages" || return 1
+    mkdir -p "$1/packages" "$1/lists/partial" "$1/cache/archives/partial" || return 1
     (
         cd "$1/packages" || exit 1
-        for name in $packages; do printf 'librust-%s-dev\n' "$name"; done | xargs apt-get -o APT::Sandbox::User=root download || exit 1
+        set -- -o "Dir::State::lists=$1/lists" -o "Dir::Cache=$1/cache"
+        download || { apt-get -o APT::Sandbox::User=root "$@" update && download "$@"; } || exit 1
         for package in *.deb; do dpkg-deb -x "$package" .. || exit 1; done
     ) >"$1/log" 2>&1 || { tail -n 3 "$1/log" >&2; return 1; }
+    rm -rf "$1/lists" "$1/cache"
+}
+
+download() { # OPTIONS..
+    for name in $packages; do printf 'librust-%s-dev\n' "$name"; done | xargs apt-get -o APT::Sandbox::User=root "$@" download
 }
 
 if [ "${1-}" = --fetch ]; then

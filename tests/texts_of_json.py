@@ -69,13 +69,19 @@ def cache(c):
         yield '  %s  %016x  %016x  %s at EL%d' % (slot, number(h['va']), number(h['pa']), {'read': 'reads', 'write': 'writes', 'fetch': 'fetches'}[h['access']], h['el'])
 
 
+def heading(d):
+    if 'core_number' in d: yield 'core %x' % number(d['core_number'])
+
+
 def run(documents):
     for d in documents:
         if 'line' not in d:
+            yield from heading(d)
             yield from cache(d)
             continue
         reads = ' rd=%x' % number(d['reads']) if 'reads' in d else ''
-        yield '%d %s => %s%s%s' % (d['line'], d['operation'], answer(d['answer']), reads, core(d['core']) if 'core' in d else '')
+        whose = 'core %x: ' % number(d['core_number']) if 'core_number' in d else ''
+        yield '%d %s%s => %s%s%s' % (d['line'], whose, d['operation'], answer(d['answer']), reads, core(d['core']) if 'core' in d else '')
         if 'words' in d: yield from words(d['words'])
 
 
@@ -199,7 +205,8 @@ def reads(documents):
 
 def audit(documents):
     d, = documents
-    line = lambda cause: 'line %d: %s' % (cause['line'], cause['text'])
+    whose = lambda cause: ', core %x' % number(cause['core_number']) if 'core_number' in cause else ''
+    line = lambda cause: 'line %d%s: %s' % (cause['line'], whose(cause), cause['text'])
     for f in d['findings']:
         yield 'STALE at ' + line(f['at'])
         yield '  address    %016x' % number(f['va'])
@@ -212,6 +219,7 @@ def audit(documents):
         yield '  changed    ' + (line(kept['changed']) if kept['changed'] else 'by no line since')
         n = kept['invalidations']
         yield '  TLBI       ' + ('COVERED, AND KEPT, AT ' + line(kept['covering']) if kept['covering'] else ['none since', '1 since, which does not cover it'][n] if n < 2 else '%d since, none of which covers it' % n)
+        if 'unheard' in kept: yield '  unheard    ' + line(kept['unheard'])
     assert d['stale'] == len(d['findings'])
     if d['stale'] == 0: yield 'no stale answer in %d accesses' % d['accesses']
     elif d['whole']: yield '%d stale in %d accesses' % (d['stale'], d['accesses'])
@@ -285,14 +293,17 @@ def chord(documents):
     for v in d['voices']:
         yield '%8d   %-4s  %06x    %03x   %08x   %s' % (v['voice'], v['note'], number(v['va']), v['slot'], number(v['pa']), v['heard'])
     yield '   sixteen voices held: ' + heard(d['held'])
-    name = {'proved': 'the proved core:', 'stale_cache': 'a stale cache:', 'no_tlbi': 'firmware without TLBI:'}
-    for c in d['changes']: yield '   %-22s %s' % (name[c['system']], heard(c))
-    for t in d['orders']: yield '   %-22s %d orders, %s' % (name[t['system']], t['orders'], heard(t))
+    name = {'proved': 'the proved core:', 'stale_cache': 'a stale cache:', 'no_tlbi': 'firmware without TLBI:', 'inner_shareable': 'TLBI VAE1IS:', 'local': 'TLBI VAE1:'}
+    def rows(part):
+        for c in part['changes']: yield '   %-22s %s' % (name[c['system']], heard(c))
+        for t in part['orders']: yield '   %-22s %d orders, %s' % (name[t['system']], t['orders'], heard(t))
+    yield from rows(d)
     yield '   The stale cache loses a tone in %d orders. The first of them, where two held keys read one page:' % d['orders'][1]['wrong']
     for events in d['first_wrong'].values():
         for e in events:
             keys = ''.join('   .              ' if k is None else '   %-4s-> %-4s%s' % (k['note'], k['heard'], '    ' if k['note'] == k['heard'] else 'LOST') for k in e['keys'])
             yield '     %-4s%s%s' % (e['key'], 'on ' if e['on'] else 'off', keys)
+    yield from rows(d['panel'])
     yield 'the chord is whole' if d['whole'] else 'THE CHORD LOST A TONE'
 
 
@@ -303,4 +314,6 @@ def help(documents):
 
 
 documents = [json.loads(line) for line in sys.stdin]
+if sys.argv[1] != 'run':
+    for text in heading(documents[0]): print(text)
 for text in globals()[sys.argv[1]](documents): print(text.rstrip())

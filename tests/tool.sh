@@ -118,10 +118,12 @@ says '  EL0  18446744073709551615  18446744073709551615            0    50.0%  #
 says '  all                     0                     0            0  modulo 2^64' "$large"
 says 'EL0 walks most: 18446744073709551615 walks' "$large"
 
-# read_as TRACE: what `a72 run` shows as read since the last `fresh` is what `a72 reads` and `a72 counters` add up to, and so many operations read some.
+# read_as TRACE: what `a72 run` shows as read since the last `fresh`, of four cores by the one that is spoken to at the end, is what `a72 reads` and `a72 counters`
+# add up to, and so many operations read some.
 read_as() {
     after=$(awk '$1 == "fresh" { n = NR } END { print n + 0 }' "$1")
-    told=$("$tool" run "$1" --short | awk -v after="$after" '
+    told=$("$tool" run "$1" --short | awk -v after="$after" -v core="$(awk '$1 == "core" { core = $2 ":" } END { print core }' "$1")" '
+        $2 == "core" && $3 != core && core != "" { next }
         $1 > after && match($0, / rd=[0-9a-f]+$/) {
             word = substr($0, RSTART + 4)
             for (n = 0; word != ""; word = substr(word, 2)) n = n * 16 + index("0123456789abcdef", substr(word, 1, 1)) - 1
@@ -586,6 +588,7 @@ same "$work/odd" 'flags, statuses and immediates at their ends'
 tests/ranges.sh && pass || fail 'tests/ranges.sh'
 tests/windows.sh && pass || fail 'tests/windows.sh'
 tests/flip.sh && pass || fail 'tests/flip.sh'
+tests/cores.sh && pass || fail 'tests/cores.sh'
 
 tests/json.sh && pass || fail 'tests/json.sh'
 

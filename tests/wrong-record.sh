@@ -24,14 +24,14 @@ notice() {
     cp "crates/replay/data/$1" "$room/$1"
 }
 
-# at FILE CODE: where the first line with this code, or with any below 60 for '-', begins. After a header of 8 words a line has 8, an operation 39.
+# at FILE CODE [WORDS]: where the first line with this code, or with any below 60 for '-', begins. After a header of 8 words a line has 8, an operation 39, or so many.
 code() { od -An -tu8 -j "$2" -N 8 "crates/replay/data/$1" | tr -d ' '; }
 at() {
     line=$((8 * 8))
     while :; do
         c=$(code "$1" "$line")
         case $2 in "$c") break ;; -) [ "$c" -ge 60 ] || break ;; esac
-        line=$((line + ($c < 60 ? 8 * 39 : 8 * 8)))
+        line=$((line + ($c < 60 ? 8 * ${3:-39} : 8 * 8)))
     done
     echo "$line"
 }
@@ -46,7 +46,16 @@ notice levels.rec $((first + 8 * 19)) "the walks of EL3"
 notice census.rec $(($(at census.rec 13) + 8 * 10)) "the digest of a census's counts"
 notice tlbi.rec $(($(wc -c <crates/replay/data/tlbi.rec) - 24)) "the last digest of hints"
 notice reads.rec $(($(wc -c <crates/replay/data/reads.rec) - 8)) "the last number of descriptors read"
+first=$(at cores.rec 64 43)
+notice cores.rec $((first + 8)) "the core that is spoken to"
+first=$((first + 8 * 8))
+notice cores.rec $((first + 8 * 39)) "the digest of core 0"
+notice cores.rec $((first + 8 * 42)) "the digest of core 3"
+last=$(wc -c <crates/replay/data/cores.rec)
+notice cores.rec $((last - 8 * 5)) "the last number of descriptors read, of four cores"
+notice cores.rec $((last - 16)) "the last digest of core 2"
 notice outside-perm.rec $(($(wc -c <crates/replay/data/outside-perm.rec) - 16)) "the last outside answer"
 notice rules.rec 24 "the number of operations"
 notice rules.rec 48 "the words of an operation's line"
+notice cores.rec 48 "the words of an operation's line, of four cores"
 echo "wrong records: all noticed"

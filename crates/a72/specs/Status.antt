@@ -2,7 +2,7 @@
 use Rattle.std.specs.Prelude.{ℕ}
 use Rattle.a72.specs.declared.stop.Stop.{Stop}
 use Rattle.a72.specs.declared.stop.Stop.TheVariants.{NoCommand, NoSuchCommand, NoSuchOption, Usage, Argument, Trace}
-use Rattle.a72.specs.declared.stop.Stop.TheVariants.{Census, List, LongList, PastRam, WrongList, NotApart, Stale, Unfinished, LostTone, Output, Memory}
+use Rattle.a72.specs.declared.stop.Stop.TheVariants.{Census, List, LongList, PastRam, NoCore, WrongList, NotApart, Stale, Unfinished, LostTone, Output, Memory}
 
 -- 2 where the call is wrong, else 1
 abbrev pub status_of : Stop → ℕ
@@ -16,6 +16,7 @@ status_of (Census refused) = 1
 status_of (List error) = 1
 status_of LongList = 1
 status_of PastRam = 1
+status_of NoCore = 1
 status_of (WrongList refusal) = 1
 status_of NotApart = 1
 status_of Stale = 1

@@ -6,6 +6,8 @@ use census_report::report::{Census, Form};
 use chord::story::Story;
 use core_calls::settings;
 use counters_report::report::Counters;
+use cpu::Core;
+use json_text::Count;
 use reads_report::report::Report;
 use serde::Serialize;
 use std::alloc::Global;
@@ -14,6 +16,7 @@ use std::io;
 use std::io::{Input, Write};
 use std::rt::Files;
 use tlb::access::Kind;
+use trace_core::cores::Cores;
 use trace_core::memory;
 use trace_file::auditor::Auditor;
 use trace_file::cache::Cache;
@@ -34,6 +37,75 @@ pub(crate) fn report<W: Write, T: Display + Serialize>(
     } else {
         write!(out, "{report}")
     }
+}
+
+// A report of one of several cores as a document: behind the core's number its own fields.
+#[derive(Clone, Copy, Serialize)]
+struct OfCore<'a, T> {
+    core_number: Count,
+    #[serde(flatten)]
+    report: &'a T,
+}
+
+// A document of the core that is spoken to; of several cores it has its number.
+fn document<W: Write, T: Serialize>(
+    out: &mut W,
+    alloc: Global,
+    cores: &Cores,
+    report: &T,
+) -> io::Result<()> {
+    match cores.number() {
+        Some(number) => {
+            let core_number = Count(number);
+            json_text::line(
+                out,
+                alloc,
+                &OfCore {
+                    core_number,
+                    report,
+                },
+            )
+        }
+        None => json_text::line(out, alloc, report),
+    }
+}
+
+// Of several cores the number of the one that a report is of, above it as text; nothing of a core by itself.
+fn heading<W: Write>(out: &mut W, cores: &Cores) -> io::Result<()> {
+    match cores.number() {
+        Some(number) => writeln!(out, "core {number:x}"),
+        None => Ok(()),
+    }
+}
+
+/// A report of the core that is spoken to.
+pub(crate) fn report_of<W: Write, T: Display + Serialize>(
+    out: &mut W,
+    alloc: Global,
+    json: bool,
+    cores: &Cores,
+    said: &T,
+) -> io::Result<()> {
+    if json {
+        document(out, alloc, cores, said)
+    } else {
+        heading(out, cores)?;
+        write!(out, "{said}")
+    }
+}
+
+/// The core that is spoken to where a trace ends.
+pub(crate) fn core(cores: &Cores) -> Result<&Core, Stop> {
+    cores.spoken_to().ok_or(Stop::NoCore)
+}
+
+/// The same, at a level, if one is named.
+pub(crate) fn core_at(cores: &mut Cores, level: Option<u64>) -> Result<&mut Core, Stop> {
+    let core = cores.spoken_to_mut().ok_or(Stop::NoCore)?;
+    if let Some(level) = level {
+        settings::level(core, level);
+    }
+    Ok(core)
 }
 
 // `a72 run`.
@@ -62,8 +134,8 @@ fn run<R: Files + Input + AllocGlobal, W: Write>(
     };
     let machine = run::run(rt, trace, &mut shown)?;
     if arguments.options.full {
-        let cache = Cache::new(rt.alloc(), &machine.core)?;
-        report(shown.out, rt.alloc(), json, &cache)?;
+        let cache = Cache::new(rt.alloc(), core(&machine.cores)?)?;
+        report_of(shown.out, rt.alloc(), json, &machine.cores, &cache)?;
     }
     Ok(())
 }
@@ -109,8 +181,10 @@ fn count<R: Files + Input + AllocGlobal, W: Write>(
     };
     let mut counted = Counted::new(rt.alloc());
     let machine = run::run(rt, arguments.trace(path)?, &mut counted)?;
-    let counters = Counters::new(&machine.core.tlb, &counted.pages.by_level());
-    report(out, rt.alloc(), arguments.options.json, &counters)?;
+    let cores = &machine.cores;
+    let pages = counted.pages(cores).ok_or(Stop::NoCore)?;
+    let counters = Counters::new(&core(cores)?.tlb, &pages.by_level());
+    report_of(out, rt.alloc(), arguments.options.json, cores, &counters)?;
     Ok(())
 }
 
@@ -129,9 +203,16 @@ fn reads<R: Files + Input + AllocGlobal, W: Write>(
     }
     let rows = arguments::rows(rest.first())?;
     let mut counted = Counted::new(rt.alloc());
-    run::run(rt, arguments.trace(path)?, &mut counted)?;
-    let pages = Report::new(rt.alloc(), &counted.pages, rows)?;
-    report(out, rt.alloc(), arguments.options.json, &pages)?;
+    let machine = run::run(rt, arguments.trace(path)?, &mut counted)?;
+    let pages = counted.pages(&machine.cores).ok_or(Stop::NoCore)?;
+    let pages = Report::new(rt.alloc(), pages, rows)?;
+    report_of(
+        out,
+        rt.alloc(),
+        arguments.options.json,
+        &machine.cores,
+        &pages,
+    )?;
     Ok(())
 }
 
@@ -169,12 +250,16 @@ fn walk<R: Files + Input + AllocGlobal, W: Write>(
     let level = arguments::level(rest.get(1))?;
     let kind = kind_of(rest.first())?;
     let mut machine = run::run(rt, arguments.trace(path)?, &mut Silent)?;
-    if let Some(level) = level {
-        settings::level(&mut machine.core, level);
-    }
+    let core = core_at(&mut machine.cores, level)?;
     let ram = machine.ram.as_mut_slice();
-    let explained = explain::explain(&mut machine.core, machine.base, ram, kind, va);
-    report(out, rt.alloc(), arguments.options.json, &explained)?;
+    let explained = explain::explain(core, machine.base, ram, kind, va);
+    report_of(
+        out,
+        rt.alloc(),
+        arguments.options.json,
+        &machine.cores,
+        &explained,
+    )?;
     if explained.agree {
         return Ok(());
     }
@@ -192,8 +277,6 @@ fn census<R: Files + Input + AllocGlobal, W: Write>(
 ) -> Result<(), Stop> {
     let form = if arguments.options.svg {
         Form::Picture
-    } else if arguments.options.json {
-        Form::Json
     } else if terminal {
         Form::Coloured
     } else {
@@ -211,11 +294,16 @@ fn census<R: Files + Input + AllocGlobal, W: Write>(
     let pages = arguments::named_number(pages, "PAGES")?;
     let level = arguments::level(rest.first())?;
     let mut machine = run::run(rt, arguments.trace(path)?, &mut Silent)?;
-    if let Some(level) = level {
-        settings::level(&mut machine.core, level);
-    }
+    let core = core_at(&mut machine.cores, level)?;
     let ram = machine.ram.as_slice();
-    let census = Census::new(&machine.core, machine.base, ram, first, pages)?;
+    let census = Census::new(core, machine.base, ram, first, pages)?;
+    if arguments.options.json {
+        document(out, rt.alloc(), &machine.cores, &census.facts(rt.alloc())?)?;
+        return Ok(());
+    }
+    if matches!(form, Form::Plain | Form::Coloured) {
+        heading(out, &machine.cores)?;
+    }
     census.show(out, rt.alloc(), form)?;
     Ok(())
 }

@@ -2,7 +2,6 @@
 use crate::arguments::Arguments;
 use crate::stop::{Stop, Wrong};
 use crate::{arguments, commands};
-use core_calls::settings;
 use flip_report::report::Report;
 use std::io::{Input, Write};
 use std::rt::Files;
@@ -43,13 +42,17 @@ pub(crate) fn carry_out<R: Files + Input + AllocGlobal, W: Write>(
     let kind = commands::kind_of(rest.first())?;
     let view = is_user(rest.get(1))?;
     let mut machine = run::run(rt, arguments.trace(path)?, &mut Silent)?;
-    if let Some(level) = level {
-        settings::level(&mut machine.core, level);
-    }
+    let core = commands::core_at(&mut machine.cores, level)?;
     // where none is named, the level's own
-    let user = view.unwrap_or(machine.core.privilege.level == 0);
+    let user = view.unwrap_or(core.privilege.level == 0);
     let ram = machine.ram.as_mut_slice();
-    let report = Report::new(&machine.core, machine.base, ram, va, kind, user)?;
-    commands::report(out, rt.alloc(), arguments.options.json, &report)?;
+    let report = Report::new(core, machine.base, ram, va, kind, user)?;
+    commands::report_of(
+        out,
+        rt.alloc(),
+        arguments.options.json,
+        &machine.cores,
+        &report,
+    )?;
     Ok(())
 }

@@ -1,7 +1,7 @@
 #![tactic(auto)]
 //! The tool: traces on the proved core, the pages that read most, an audit of its cache, its counters by level, one
-//! translation step by step, the bit whose flip changes one, an address space as ranges, a census of pages, windows that
-//! share a page, cycles as sample frames, and the chord.
+//! translation step by step, the bit whose flip changes one, an address space as ranges, a census of pages, windows
+//! that share a page, cycles as sample frames, and the chord.
 mod arguments;
 mod commands;
 mod flipped_bit;

@@ -3,7 +3,6 @@ use crate::arguments::Arguments;
 use crate::stop::Stop;
 use crate::{arguments, commands};
 use census_report::report::Refused;
-use core_calls::settings;
 use ranges_report::report::Ranges;
 use std::io::{Input, Write};
 use std::rt::Files;
@@ -44,15 +43,19 @@ pub(crate) fn carry_out<R: Files + Input + AllocGlobal, W: Write>(
     let (first, last) = ends(bounds)?;
     let level = arguments::level(level)?;
     let mut machine = run::run(rt, arguments.trace(path)?, &mut Silent)?;
-    if let Some(level) = level {
-        settings::level(&mut machine.core, level);
-    }
-    if 3 < machine.core.privilege.level {
+    let core = commands::core_at(&mut machine.cores, level)?;
+    if 3 < core.privilege.level {
         return Err(Stop::Census(Refused::Level));
     }
     let ram = machine.ram.as_slice();
-    let ranges = Ranges::new(rt.alloc(), &machine.core, machine.base, ram, first, last)?;
-    commands::report(out, rt.alloc(), arguments.options.json, &ranges)?;
+    let ranges = Ranges::new(rt.alloc(), core, machine.base, ram, first, last)?;
+    commands::report_of(
+        out,
+        rt.alloc(),
+        arguments.options.json,
+        &machine.cores,
+        &ranges,
+    )?;
     if ranges.is_all() {
         return Ok(());
     }

@@ -66,6 +66,9 @@ pub enum Stop {
     /// of a command on windows of a list, or on a flipped bit
     #[error("the window of RAM passes 2^64")]
     PastRam,
+    /// of a command on the core that a trace leaves
+    #[error("the trace ends on a core above 3: there are the cores 0 to 3")]
+    NoCore,
     /// LIST is wrong
     #[error("a wrong list")]
     WrongList(Refusal),

@@ -25,9 +25,9 @@ audit    carries out a trace, and beside each access walks the tables afresh: sh
 walk     carries out a trace, then shows one translation of ADDRESS (hexadecimal) step by step: registers,
          range, each descriptor, the end, and what the core answers. A read at the core's level, or as named.
          The status is 1 where the core answers otherwise than the walk.
-flip     carries out a trace, then shows the walk of ADDRESS (hexadecimal) and the first bit of a descriptor in RAM whose
-         flip changes how an access ends with nothing cached, and what it ends in then; or that no bit of RAM does. A
-         read at the core's level, by its own rights, or as named; the unprivileged mark does not count.
+flip     carries out a trace, then shows the walk of ADDRESS (hexadecimal) and the first bit of a descriptor in RAM
+         whose flip changes how an access ends with nothing cached, and what it ends in then; or that no bit of RAM
+         does. A read at the core's level, by its own rights, or as named; the unprivileged mark does not count.
 counters carries out a trace, then shows what the cache counted at each exception level: translations that an
          entry answered, walks, descriptors that were read, the share of walks with a bar, the sums, and which
          level walks and reads most.
@@ -42,15 +42,17 @@ windows  carries out a trace, then shows where the windows of LIST lie, each pag
 frames   shows a TOTAL of cycles (decimal; 1500000000 are a second) as sample frames, at 48000 and 44100 frames a
          second, or at one of them: whole frames, and exactly what is left of the next, in cycles or 147ths of one.
 chord    sixteen voices, a page each, and every order of a small chord: no tone is lost; against a stale
-         cache, which loses one.
+         cache, which loses one; and with the tables changed on another core than the one that hears.
 
 TRACE is a file of lines, or - for standard input, which is carried out as it comes: tr, dpa, fpa, ld, st, if, sys,
 reg, level, mark, x, abort, census, win, flip; fresh, window, zero, poke, load, bytes; leaves l-..; pokes p-..; parts
-w-.. Numbers are hexadecimal without 0x; # starts a comment. Names stand for numbers as an assembler has them: reg
-TCR_EL1 19, tlbi vae1is x1, at s1e1r x0, dc zva x2. A file with a bad line gets a message `a72: FILE:LINE:COLUMN:
-reason` on standard error, and nothing else happens. --image FILE@ADDRESS: the bytes of FILE, a raw dump, are the
-window before the first line, from the physical ADDRESS on. --json: what a command says as one JSON document, of run
-as one for each operation; what keeps a call from being carried out too, on standard error.
+w-.. From its first line `core N` on it is of four cores, 0 to 3, over one RAM, and operations go to core N: run
+names it, audit holds each to what it heard, and the other commands are of the core that the last such line names.
+Numbers are hexadecimal without 0x; # starts a comment. Names stand for numbers as an assembler has them: reg TCR_EL1
+19, tlbi vae1is x1, at s1e1r x0, dc zva x2. A file with a bad line gets a message `a72: FILE:LINE:COLUMN: reason` on
+standard error, and nothing else happens. --image FILE@ADDRESS: the bytes of FILE, a raw dump, are the window before
+the first line, from the physical ADDRESS on. --json: what a command says as one JSON document, of run as one for
+each operation; what keeps a call from being carried out too, on standard error.
 ";
 
 /// Whether a word is the name of a command.

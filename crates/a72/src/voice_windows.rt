@@ -34,8 +34,15 @@ pub(crate) fn carry_out<R: Files + Input + AllocGlobal, W: Write>(
     }
     let machine = run::run(rt, arguments.trace(path)?, &mut Silent)?;
     let (ram, list) = (machine.ram.as_slice(), list.as_slice());
-    let report = Report::new(rt.alloc(), &machine.core, machine.base, ram, list)?;
-    commands::report(out, rt.alloc(), arguments.options.json, &report)?;
+    let core = commands::core(&machine.cores)?;
+    let report = Report::new(rt.alloc(), core, machine.base, ram, list)?;
+    commands::report_of(
+        out,
+        rt.alloc(),
+        arguments.options.json,
+        &machine.cores,
+        &report,
+    )?;
     if report.is_apart() {
         return Ok(());
     }

@@ -1,6 +1,6 @@
 -- What the contracts of `audit` rest on: a leaf is judged as the core without a cache judges it, and what a call drops is
 -- read off its encoding or its registers.
-use Rattle.std.specs.Prelude.{if◌then◌else◌, ◌≡◌, refl, true, false, List, [], ◌∷◌, ℕ, ◌*◌, ◌/◌, ◌+◌, ◌%◌, ◌==◌, ◌≤◌, Ok, Err, Bool, length, count_by}
+use Rattle.std.specs.Prelude.{if◌then◌else◌, ◌≡◌, refl, true, false, List, [], ◌∷◌, ℕ, ◌*◌, ◌/◌, ◌+◌, ◌%◌, ◌==◌, ◌≤◌, Some, Ok, Err, Bool, length, count_by}
 use Rattle.std.proofs.Common.{◌∙◌, ap, sym, arith}
 use Rattle.fault.specs.First.{first}
 use Rattle.walk.specs.Regime.{bank_of, stage1_on}
@@ -34,6 +34,7 @@ use Rattle.tlb.specs.Asks.{Given}
 use Rattle.tlb.specs.Lists.{Each, done, more}
 use Rattle.walk_report.specs.Told.{told_by_walk, told_of, walk_told}
 use Rattle.audit.specs.Answers.{fresh_answer, given_in, listed}
+use Rattle.cluster.specs.Shared.{shared_in}
 use Rattle.audit.specs.Counting.{differ, is_stale, stale_in}
 use Rattle.audit.specs.declared.answers.{Ask.Ask, Answered.Answered, Answers.Answers}
 
@@ -100,6 +101,11 @@ fresh-at c m a x e f = f ∙ ap (λ (y : Ask). fresh_answer c m y) (sym e)
 pub tlbi-drops : (b : Bare) (m : Ram) (e : Encoding) → missed_in b m (System e) ≡ 0 → op_in b e ≡ Op.Tlbi
     → if_allowed (ruling_in b m (System e)) (drops_of b (System e)) [] ≡ tlbi_of b.control e.op1 e.crm e.op2 (operand_in b e) ∷ []
 tlbi-drops b m e h o = rw (h, o) refl
+
+-- and the Inner Shareable forms are shared
+pub tlbi-shares : (b : Bare) (m : Ram) (e : Encoding) → missed_in b m (System e) ≡ 0 → op_in b e ≡ Op.Tlbi → (e.crm == 3) ≡ true
+    → Some (tlbi_of b.control e.op1 e.crm e.op2 (operand_in b e)) ≡ shared_in b m (System e)
+tlbi-shares b m e h o r = rw (h, o, r) refl
 
 pub write-drops : (b : Bare) (m : Ram) (key value : ℕ) (l : List Inval) → missed_in b m (Register key value) ≡ 0
     → if_allowed (ruling_in b m (Register key value)) l [] ≡ if_allowed (by_write (written_in b key value).answer) l []

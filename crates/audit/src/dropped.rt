@@ -7,6 +7,7 @@ ghost use Rattle.history.specs.World.{covers};
 ghost use Rattle.cpu.specs.declared.call.Call.TheVariants.{Register};
 ghost use Rattle.transparency.specs.Bare.{by_write, if_allowed, ruling_in, written_in};
 ghost use Rattle.transparency.specs.Claim.{drops_of};
+ghost use Rattle.cluster.specs.Shared.{shared_in};
 ghost use Rattle.audit.specs.Answers.{drops_in};
 
 use cpu::call::Call;
@@ -72,6 +73,22 @@ pub fn dropped(core: &Core, base: u64, ram: &[u8], call: Call) -> Option<Inval>
             _ => None,
         },
         Call::Register(key, value) => reshaped(core, key, value),
+        _ => None,
+    }
+}
+
+/// What a call of one of several cores is about to have the others invalidate: the Inner Shareable forms of TLBI do.
+/// Nothing where it is refused.
+pub fn shared(core: &Core, base: u64, ram: &[u8], call: Call) -> Option<Inval>
+    ensures { result ≡ shared_in (bare_of core.now) (window_of base ram.now) call }
+{
+    let level = core.privilege.level;
+    check::missed(level, base, ram.len() as u64, call).ok()?;
+    match call {
+        Call::System(e) if e.crm == 3 => match decode::decode(level, e) {
+            SysOp::Tlbi => Some(tlbi::tlbi(&core.control, e, core.reg(e.rt))),
+            _ => None,
+        },
         _ => None,
     }
 }

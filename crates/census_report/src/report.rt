@@ -5,7 +5,7 @@ use crate::text::Facts;
 use crate::{picture, text};
 use core_calls::inspect;
 use cpu::Core;
-use std::alloc::Global;
+use std::alloc::{AllocError, Global};
 use std::io::Write;
 use std::{fmt, io};
 
@@ -35,7 +35,6 @@ pub enum Form {
     Plain,
     Coloured,
     Picture,
-    Json,
 }
 
 /// The counts of a range's pages by how they end, the map of its cells, and the level that it was made at.
@@ -90,13 +89,17 @@ impl Census {
             .fold(0, |sum, (_, count)| sum.wrapping_add(*count))
     }
 
+    /// Its facts, for a document.
+    pub fn facts(&self, alloc: Global) -> Result<Facts, AllocError> {
+        Facts::new(alloc, self)
+    }
+
     /// Shows it.
     pub fn show<W: Write>(&self, out: &mut W, alloc: Global, form: Form) -> io::Result<()> {
         match form {
             Form::Plain => text::show(out, alloc, self, false),
             Form::Coloured => text::show(out, alloc, self, true),
             Form::Picture => picture::show(out, self),
-            Form::Json => json_text::line(out, alloc, &Facts::new(alloc, self)?),
         }
     }
 }

@@ -1,13 +1,16 @@
-// The instrument: a core, its tables and frames in RAM, and what the firmware does to them at note-on and note-off.
+// The instrument: its cores, tables and frames in RAM, and what the firmware does to them at note-on and note-off.
 use crate::note::Note;
-use call_words::reply::Report;
-use core_calls::{memory, settings, step};
+use cluster::Cluster;
 use cpu::Core;
+use cpu::call::{Call, Reply};
 use serde::Serialize;
+use std::alloc::{AllocError, Global};
 use std::fmt;
 use std::ops::AddAssign;
+use system::decode::Encoding;
 use tlb::access::Kind;
 use tlb::hint;
+use tlb::work::Work;
 use word::ram;
 use word::ram::Width;
 
@@ -40,6 +43,10 @@ pub enum System {
     StaleCache,
     /// The firmware forgets to invalidate it.
     NoTlbi,
+    /// The firmware changes the tables on another core than the voices', and invalidates a page on both.
+    InnerShareable,
+    /// The same, but it invalidates a page on the core alone that changes the tables.
+    Local,
 }
 
 impl System {
@@ -49,6 +56,24 @@ impl System {
             System::Proved => "the proved core:",
             System::StaleCache => "a stale cache:",
             System::NoTlbi => "firmware without TLBI:",
+            System::InnerShareable => "TLBI VAE1IS:",
+            System::Local => "TLBI VAE1:",
+        }
+    }
+
+    // The core by which voices are heard. Core 0 changes the tables.
+    fn audio(self) -> u64 {
+        match self {
+            System::Proved | System::StaleCache | System::NoTlbi => 0,
+            System::InnerShareable | System::Local => 1,
+        }
+    }
+
+    // CRm of its TLBI by address.
+    fn crm(self) -> u64 {
+        match self {
+            System::InnerShareable => 3,
+            _ => 7,
         }
     }
 }
@@ -104,10 +129,10 @@ fn descriptor_at(voice: usize) -> u64 {
     LEVEL3 + page / 1024 % 2 * 0x1000 + page % 512 * 8
 }
 
-/// Sixteen voices on a core and its RAM.
+/// Sixteen voices on cores over one RAM.
 #[derive(Drop)]
 pub struct Instrument {
-    core: Core,
+    cluster: Box<Cluster>,
     ram: Vec<u8>,
     system: System,
     // a bit for each frame in use
@@ -117,17 +142,17 @@ pub struct Instrument {
 
 impl Instrument {
     /// An instrument over RAM of 2 MiB, to be started.
-    pub fn new(ram: Vec<u8>) -> Self {
-        Instrument {
-            core: Core::new(),
+    pub fn new(alloc: Global, ram: Vec<u8>) -> Result<Self, AllocError> {
+        Ok(Instrument {
+            cluster: Box::new(alloc, Cluster::new())?,
             ram,
             system: System::Proved,
             used: 0,
             voices: [None; 16],
-        }
+        })
     }
 
-    /// No voice held, on a fresh core at EL1 with stage 1 on and no page mapped.
+    /// No voice held and no page mapped, on fresh cores at EL1 with stage 1 on.
     pub fn start(&mut self, system: System) {
         self.system = system;
         self.used = 0;
@@ -138,11 +163,23 @@ impl Instrument {
         for voice in 0..16 {
             self.put(descriptor_at(voice), 0);
         }
-        self.core = Core::new();
-        settings::register(&mut self.core, 0xC102, TCR);
-        settings::register(&mut self.core, 0xC100, LEVEL1);
-        settings::register(&mut self.core, 0xC080, 0x30D0_0801);
-        settings::level(&mut self.core, 1);
+        for core in 0..=system.audio() {
+            self.boot(core);
+        }
+    }
+
+    // A fresh core, and then the registers that translate and its level.
+    fn boot(&mut self, core: u64) {
+        let _ = self.cluster.put(core, &Core::new());
+        self.call(core, Call::Register(0xC102, TCR));
+        self.call(core, Call::Register(0xC100, LEVEL1));
+        self.call(core, Call::Register(0xC080, 0x30D0_0801));
+        self.call(core, Call::Level(1));
+    }
+
+    fn call(&mut self, core: u64, call: Call) -> Reply {
+        let ram = self.ram.as_mut_slice();
+        self.cluster.step(core, BASE, ram, call, &mut Work::none())
     }
 
     fn put(&mut self, pa: u64, value: u64) {
@@ -177,46 +214,36 @@ impl Instrument {
         self.voices[voice % 16] = None;
         self.put(descriptor_at(voice), 0);
         match self.system {
-            System::Proved => self.invalidate(voice),
+            System::Proved | System::InnerShareable | System::Local => self.invalidate(voice),
             System::StaleCache => {
                 let slot = hint::data_slot(address(voice), Kind::Read);
-                let old = self.core.tlb.hints[slot];
+                let old = self.cluster.cores[0].tlb.hints[slot];
                 self.invalidate(voice);
-                self.core.tlb.hints[slot] = old;
+                self.cluster.cores[0].tlb.hints[slot] = old;
             }
             System::NoTlbi => {}
         }
     }
 
-    // TLBI VAE1 of a voice's page.
+    // TLBI VAE1 or VAE1IS of a voice's page.
     fn invalidate(&mut self, voice: usize) {
-        let mut answer = Report { value: 0, reads: 0 };
-        settings::general(&mut self.core, 1, page(voice));
-        step::system(
-            &mut self.core,
+        self.call(0, Call::General(1, page(voice)));
+        self.call(
             0,
-            8,
-            7,
-            1,
-            1,
-            &mut answer,
-            BASE,
-            self.ram.as_mut_slice(),
+            Call::System(Encoding {
+                op1: 0,
+                crn: 8,
+                crm: self.system.crm(),
+                op2: 1,
+                rt: 1,
+            }),
         );
     }
 
-    /// What a voice gives, read through the core.
+    /// What a voice gives, read through the core that hears.
     pub fn hear(&mut self, voice: usize) -> Note {
-        let mut note = Report { value: 0, reads: 0 };
-        match memory::load(
-            &mut self.core,
-            address(voice),
-            8,
-            &mut note,
-            BASE,
-            self.ram.as_slice(),
-        ) {
-            0 => Note(note.value),
+        match self.call(self.system.audio(), Call::Load(address(voice), 8)) {
+            Reply::Value(note) => Note(note),
             _ => Note::SILENCE,
         }
     }

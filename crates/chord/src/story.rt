@@ -1,5 +1,5 @@
 // The story: the sixteen voices, then every order of a small chord, on the proved core and against two systems that
-// lose a tone.
+// lose a tone; then both with the tables changed on another core.
 use crate::instrument;
 use crate::instrument::{Heard, Instrument, System};
 use crate::note::Note;
@@ -40,7 +40,14 @@ struct FirstWrong {
     proved: Vec<Event>,
 }
 
-/// All three parts: sixteen voices, every voice changed, and every order of a chord.
+// Both again, with the tables changed on one core and the voices heard on another.
+#[derive(Clone, Copy, Serialize)]
+struct Panel {
+    changes: [Change; 2],
+    orders: [Tally; 2],
+}
+
+/// All four parts: sixteen voices, every voice changed, every order of a chord, and the panel on another core.
 #[derive(Drop, Serialize)]
 pub struct Story {
     voices: Vec<Voice>,
@@ -48,7 +55,8 @@ pub struct Story {
     changes: [Change; 3],
     orders: [Tally; 3],
     first_wrong: Option<FirstWrong>,
-    /// whether the proved core lost no tone in any
+    panel: Panel,
+    /// whether the proved core lost no tone in any, nor the one that hears what the panel's invalidates
     pub whole: bool,
 }
 
@@ -97,7 +105,7 @@ impl Instrument {
 impl Story {
     /// Plays it, over RAM of 2 MiB.
     pub fn new(alloc: Global, ram: Vec<u8>) -> Result<Self, AllocError> {
-        let mut instrument = Instrument::new(ram);
+        let mut instrument = Instrument::new(alloc, ram)?;
         let voices = instrument.voices(alloc)?;
         let held = instrument.listen();
         let changes = [System::Proved, System::StaleCache, System::NoTlbi].map(
@@ -113,13 +121,26 @@ impl Story {
             }),
             None => None,
         };
-        let whole = held.lost == 0 && changes[0].heard.lost == 0 && orders[0].heard.lost == 0;
+        let panel = Panel {
+            changes: [System::InnerShareable, System::Local].map(|system| instrument.change_all(
+                system,
+            )),
+            orders: [System::InnerShareable, System::Local].map(|system| instrument.play_all(
+                system,
+            )),
+        };
+        let whole = held.lost == 0
+            && changes[0].heard.lost == 0
+            && orders[0].heard.lost == 0
+            && panel.changes[0].heard.lost == 0
+            && panel.orders[0].heard.lost == 0;
         Ok(Story {
             voices,
             held,
             changes,
             orders,
             first_wrong,
+            panel,
             whole,
         })
     }
@@ -140,8 +161,8 @@ impl Story {
     fn second_part<W: fmt::Write>(&self, f: &mut fmt::Formatter<W>) -> fmt::Result {
         write!(f, "\n2. Every voice changes its note and its frame:")?;
         writeln!(f, " note-off, TLBI by address, note-on.\n")?;
-        for change in self.changes {
-            writeln!(f, "   {:<22} {}", change.system.name(), change.heard)?;
+        for change in &self.changes {
+            write!(f, "{change}")?;
         }
         Ok(())
     }
@@ -173,6 +194,30 @@ impl Story {
         }
         Ok(())
     }
+
+    fn fourth_part<W: fmt::Write>(&self, f: &mut fmt::Formatter<W>) -> fmt::Result {
+        write!(
+            f,
+            "\n4. The panel on another core: its thread changes the tables on core 0,"
+        )?;
+        writeln!(f, " and voices are heard on core 1, over the same RAM.\n")?;
+        writeln!(f, "   Every voice changes its note and its frame:\n")?;
+        for change in &self.panel.changes {
+            write!(f, "{change}")?;
+        }
+        writeln!(f, "\n   Every order of the chord:\n")?;
+        for tally in &self.panel.orders {
+            write!(f, "{tally}")?;
+        }
+        Ok(())
+    }
+}
+
+impl fmt::Display for Change {
+    fn fmt<W: fmt::Write>(&self, f: &mut fmt::Formatter<W>) -> fmt::Result {
+        let name = self.system.name();
+        writeln!(f, "   {name:<22} {}", self.heard)
+    }
 }
 
 impl fmt::Display for Voice {
@@ -195,6 +240,7 @@ impl fmt::Display for Story {
         self.first_part(f)?;
         self.second_part(f)?;
         self.third_part(f)?;
+        self.fourth_part(f)?;
         let verdict = if self.whole {
             "the chord is whole"
         } else {

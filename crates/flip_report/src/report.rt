@@ -17,8 +17,8 @@ use walk_report::answer::Told;
 use walk_report::explain;
 use walk_report::walkthrough::Walkthrough;
 
-/// The walk of an address on a core and its RAM, how an access to it ends with nothing cached, and the first bit whose flip
-/// changes that.
+/// The walk of an address on a core and its RAM, how an access to it ends with nothing cached, and the first bit whose
+/// flip changes that.
 #[derive(Clone, Copy, Serialize)]
 pub struct Report {
     access: &'static str,
@@ -36,8 +36,8 @@ fn view_name(user: bool) -> &'static str {
 }
 
 impl Report {
-    /// Of an access by EL0's rights or by the regime's own, in the regime of the core's level, over the RAM that starts at
-    /// `base`; RAM stays as it was.
+    /// Of an access by EL0's rights or by the regime's own, in the regime of the core's level, over the RAM that starts
+    /// at `base`; RAM stays as it was.
     pub fn new(
         core: &Core,
         base: u64,
@@ -48,10 +48,10 @@ impl Report {
     ) -> Result<Self, Check>
         ensures answer { IfOk result (λ report. report.answer ≡ told_of (answer_on (question_of core.now.control
             core.now.privilege.level va kind user) base ram.old)) }
-        ensures found { IfOk result (λ report. IsTold core.now.control core.now.privilege.level base ram.old va kind user
-            report.found) }
-        ensures refused { IfErr result (λ check. flip_of core.now.control core.now.privilege.level base ram.old va kind user
-            ≡ Err check) }
+        ensures found { IfOk result (λ report. IsTold core.now.control core.now.privilege.level base ram.old va kind
+            user report.found) }
+        ensures refused { IfErr result (λ check. flip_of core.now.control core.now.privilege.level base ram.old va kind
+            user ≡ Err check) }
         ensures ram { ram.new ≡ ram.old }
     {
         let flip = flip::flip(core, base, ram, va, kind, user)?;

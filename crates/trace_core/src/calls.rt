@@ -1,15 +1,18 @@
-//! A call on the core, by the function that C calls, its reply, and the descriptors that it read.
+//! A call on a core, by the function that C calls, its reply, and the descriptors that it read; and the same of a core
+//! among four.
 ghost use Rattle.std.specs.Prelude.{◌≡◌, ◌%◌};
 ghost use Rattle.fault.specs.First.{first};
 ghost use Rattle.tlb.specs.Work.{no_work};
 ghost use Rattle.cpu.specs.Step.{ram_after, step_of};
 ghost use Rattle.cpu.specs.Work.{step_work};
+ghost use Rattle.cluster.specs.Cluster.{four_after, four_ram, four_reply, four_work};
 ghost use Rattle.trace_core.specs.Told.{data_told, insn_told, told};
 
 use call_words::reply::Report;
+use cluster::Cluster;
 use core_calls::memory;
-use cpu::Core;
 use cpu::call::{Call, Reply};
+use cpu::{Core, check};
 use exception::kind::{DataAbort, Exception, InsnAbort, Stop};
 use fault::Fault;
 use tlb::work::Work;
@@ -53,8 +56,8 @@ pub struct Carried {
     pub reads: u64,
 }
 
-/// Carries out a call, by the function that C calls where it has one for it. Core, RAM, reply and reads are those of the
-/// definitions: a number tells the status whole, since that is a byte of every core (`fits`).
+/// Carries out a call, by the function that C calls where it has one for it. Core, RAM, reply and reads are those of
+/// the definitions: a number tells the status whole, since that is a byte of every core (`fits`).
 #[tactic(auto, unfolding(call_words::specs::Ops::translate_call), using(crate::proofs::Told::told_translation, crate::proofs::Told::told_data_pa, crate::proofs::Told::told_fetch_pa, crate::proofs::Told::told_load, crate::proofs::Told::told_store, crate::proofs::Told::told_fetch, crate::proofs::Told::reads_translation, crate::proofs::Told::reads_data_pa, crate::proofs::Told::reads_fetch_pa, crate::proofs::Told::reads_load, crate::proofs::Told::reads_store, crate::proofs::Told::reads_fetch))]
 pub fn carry_out(core: &mut Core, base: u64, ram: &mut [u8], call: Call) -> Carried
     ensures reply { result.reply ≡ (step_of core.old base ram.old call).reply }
@@ -107,5 +110,28 @@ pub fn carry_out(core: &mut Core, base: u64, ram: &mut [u8], call: Call) -> Carr
     Carried {
         reply,
         reads: report.reads,
+    }
+}
+
+/// The same on the core of a number among four: one that is not refused hands on what that core then has pending. The
+/// four, RAM, reply and reads are those of the definitions.
+pub fn carry_out_in(cluster: &mut Cluster, n: u64, base: u64, ram: &mut [u8], call: Call) -> Carried
+    ensures reply { result.reply ≡ four_reply cluster.old.cores n base ram.old call }
+    ensures reads { result.reads ≡ (four_work cluster.old.cores n base ram.old call no_work).reads }
+    ensures cores { cluster.new.cores ≡ four_after cluster.old.cores n base ram.old call }
+    ensures ram { ram.new ≡ four_ram cluster.old.cores n base ram.old call }
+{
+    match check::core(n) {
+        Ok(place) => {
+            let carried = carry_out(&mut cluster.cores[place], base, ram, call);
+            if !carried.reply.refuses() {
+                cluster.deliver(place);
+            }
+            carried
+        }
+        Err(check) => Carried {
+            reply: Reply::from(check),
+            reads: 0,
+        },
     }
 }

@@ -81,9 +81,11 @@ fn entry_of(tag: u64, generation: u64, bits: u64, pa: u64) -> Entry {
     }
 }
 
-/// A part of the core is written that no call writes alone.
-pub fn poke(machine: &mut Machine, poke: Poke) {
-    let core = &mut machine.core;
+/// A part of the core that is spoken to is written that no call writes alone; false where its number is above 3.
+pub fn poke(machine: &mut Machine, poke: Poke) -> bool {
+    let Some(core) = machine.cores.spoken_to_mut() else {
+        return false;
+    };
     match poke {
         Poke::Level(level) => machine.set_level(level),
         Poke::Pc(pc) => core.pc = pc,
@@ -92,11 +94,14 @@ pub fn poke(machine: &mut Machine, poke: Poke) {
         Poke::Counters(value) => put_counters(&mut core.tlb, value),
         Poke::Broadcast => core.tlb.broadcast = None,
     }
+    true
 }
 
-/// A word, a hint or an entry is written.
+/// A word, a hint or an entry of the core that is spoken to is written; nothing where its number is above 3.
 pub fn overwrite(machine: &mut Machine, part: Part) {
-    let core = &mut machine.core;
+    let Some(core) = machine.cores.spoken_to_mut() else {
+        return;
+    };
     match part {
         Part::Word { place, value } => match usize::from(place) {
             place::LEVEL => machine.set_level(value % 0x1_0000_0000),

@@ -1,6 +1,7 @@
 #![tactic(auto)]
-//! The core and its window of RAM, and what each line of a trace does to them.
+//! The cores and their window of RAM, and what each line of a trace does to them.
 mod calls;
+pub mod cores;
 mod edits;
 mod flipped;
 mod leaves;

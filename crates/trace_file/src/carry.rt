@@ -4,11 +4,13 @@ use crate::kept::Cause;
 use crate::report::Trouble;
 use crate::show;
 use crate::show::Outcome;
+use cpu::call::Call;
 use reads_report::named;
 use reads_report::pages::Pages;
-use std::alloc::Global;
+use std::alloc::{AllocError, Global};
 use std::io;
 use std::io::Write;
+use trace_core::cores::Cores;
 use trace_core::machine::Machine;
 use trace_text::expected::Expected;
 use trace_text::line::{Line, Operation, Setup};
@@ -22,6 +24,19 @@ pub struct Numbered {
 }
 
 impl Numbered {
+    // The line, and the core that it is for, among several.
+    fn cause(&self, machine: &Machine) -> Cause {
+        let core = match self.line {
+            Line::Operation(_) | Line::Setup(Setup::Part(_)) => machine.cores.number(),
+            _ => None,
+        };
+        Cause {
+            number: self.number,
+            core,
+            line: self.line,
+        }
+    }
+
     // What was read is what the line expects.
     fn hold(&self, reads: u64) -> Result<(), Trouble> {
         match self.expected.broken(reads) {
@@ -51,17 +66,43 @@ pub struct Shown<'a, W> {
 #[derive(Clone, Copy)]
 pub struct Silent;
 
-/// Nothing is said; what each operation reads is counted at its page.
+/// Nothing is said; what each operation reads is counted at its page, for each core by itself.
 #[derive(Drop)]
 pub struct Counted {
-    pub pages: Pages,
+    pages: [Pages; 4],
 }
 
 impl Counted {
     pub fn new(alloc: Global) -> Self {
         Counted {
-            pages: Pages::new(alloc),
+            pages: [
+                Pages::new(alloc),
+                Pages::new(alloc),
+                Pages::new(alloc),
+                Pages::new(alloc),
+            ],
         }
+    }
+
+    /// Of the core that is spoken to, if there is one of its number.
+    pub fn pages(&self, cores: &Cores) -> Option<&Pages> {
+        self.pages.get(cores.place()?)
+    }
+
+    // A call, and what it read at its page.
+    fn call(&mut self, machine: &mut Machine, call: Call) -> Result<(), AllocError> {
+        let page = match machine.cores.spoken_to() {
+            Some(core) => named::page(core, call),
+            None => None,
+        };
+        let reads = machine.perform(Operation::Call(call)).reads;
+        let (Some(page), Some(place)) = (page, machine.cores.place()) else {
+            return Ok(());
+        };
+        if reads != 0 {
+            self.pages[place].note(page, reads)?;
+        }
+        Ok(())
     }
 }
 
@@ -117,17 +158,11 @@ impl Carrier for Silent {
 impl Carrier for Counted {
     fn line(&mut self, line: Numbered, machine: &mut Machine) -> Result<bool, Trouble> {
         match line.line {
-            Line::Operation(Operation::Call(call)) => {
-                let page = named::page(&machine.core, call);
-                let reads = machine.perform(Operation::Call(call)).reads;
-                if let Some(page) = page {
-                    if reads != 0 {
-                        self.pages.note(page, reads)?;
-                    }
-                }
-            }
+            Line::Operation(Operation::Call(call)) => self.call(machine, call)?,
             Line::Setup(Setup::Fresh) => {
-                self.pages.clear();
+                for pages in self.pages.iter_mut() {
+                    pages.clear();
+                }
                 perform(line.line, machine)?;
             }
             _ => perform(line.line, machine)?,
@@ -138,8 +173,8 @@ impl Carrier for Counted {
 
 impl<W: Write> Carrier for Audited<'_, W> {
     fn line(&mut self, line: Numbered, machine: &mut Machine) -> Result<bool, Trouble> {
-        let Numbered { number, line, .. } = line;
-        self.auditor.line(machine, Cause { number, line })?;
+        let cause = line.cause(machine);
+        self.auditor.line(machine, cause)?;
         if self.at_once {
             for finding in &self.auditor.found {
                 write!(self.out, "{finding}").map_err(Trouble::Output)?;

@@ -21,6 +21,8 @@ struct Text(Line);
 #[derive(Clone, Copy, Serialize)]
 struct Numbered {
     line: Count,
+    #[serde(skip_serializing_if = Option::is_none)]
+    core_number: Option<Count>,
     text: Shown<Text>,
 }
 
@@ -32,7 +34,11 @@ impl fmt::Display for Text {
 
 impl fmt::Display for Cause {
     fn fmt<W: fmt::Write>(&self, f: &mut fmt::Formatter<W>) -> fmt::Result {
-        write!(f, "line {}: {}", self.number, Text(self.line))
+        write!(f, "line {}", self.number)?;
+        if let Some(core) = self.core {
+            write!(f, ", core {core:x}")?;
+        }
+        write!(f, ": {}", Text(self.line))
     }
 }
 
@@ -42,6 +48,7 @@ impl Serialize for Cause {
     fn serialize<S: Serializer>(&self, out: &mut S) -> Result<(), S::Error> {
         Numbered {
             line: Count(self.number),
+            core_number: self.core.map(Count),
             text: Shown::new(Text(self.line)),
         }
         .serialize(out)
@@ -64,6 +71,20 @@ struct Filled {
     invalidations: Count,
     // the last of them that covers it
     covering: Option<Cause>,
+    // of several cores, the last that would cover it and is of another core alone
+    #[serde(skip_serializing_if = Option::is_none)]
+    unheard: Option<Cause>,
+}
+
+/// What was invalidated since a walk.
+#[derive(Clone, Copy, Default)]
+pub struct Since {
+    /// how many invalidations the cache heard of
+    pub heard: u64,
+    /// the last of them that covers the walk
+    pub covering: Option<Cause>,
+    /// the last TLBI of another core that covers it, since a walk ends otherwise, and that the cache did not hear of
+    pub unheard: Option<Cause>,
 }
 
 /// A stale answer: the line that got it, the walk that was kept, and what was invalidated since that walk.
@@ -135,7 +156,7 @@ impl fmt::Display for Audit {
 }
 
 impl Filled {
-    fn new(kept: &Kept, invalidations: u64, covering: Option<Cause>) -> Self {
+    fn new(kept: &Kept, since: Since) -> Self {
         let (regime, leaf) = (kept.regime, kept.leaf);
         let perms = leaf.perms;
         Filled {
@@ -147,28 +168,23 @@ impl Filled {
             level: leaf.level,
             asid: (!leaf.global).then_some(Hex(u64::from(kept.asid))),
             changed: kept.changed,
-            invalidations: Count(invalidations),
-            covering,
+            invalidations: Count(since.heard),
+            covering: since.covering,
+            unheard: since.unheard,
         }
     }
 }
 
 impl Finding {
-    /// Of a line's answer, the walk that was kept, how many invalidations came since, and the last that covers it.
-    pub fn new(
-        at: Cause,
-        answered: Answered,
-        kept: Option<Kept>,
-        invalidations: u64,
-        covering: Option<Cause>,
-    ) -> Self {
+    /// Of a line's answer, the walk that was kept, and what was invalidated since.
+    pub fn new(at: Cause, answered: Answered, kept: Option<Kept>, since: Since) -> Self {
         Finding {
             at,
             va: Hex(answered.ask.address()),
             core: Told::from(answered.core),
             by: answered.source,
             walk_now: Told::from(answered.fresh),
-            filled: kept.map(|kept| Filled::new(&kept, invalidations, covering)),
+            filled: kept.map(|kept| Filled::new(&kept, since)),
         }
     }
 }
@@ -205,6 +221,10 @@ impl fmt::Display for Filled {
             (0, None) => writeln!(f, "none since"),
             (1, None) => writeln!(f, "1 since, which does not cover it"),
             (n, None) => writeln!(f, "{n} since, none of which covers it"),
+        }?;
+        match self.unheard {
+            Some(line) => writeln!(f, "  unheard    {line}"),
+            None => Ok(()),
         }
     }
 }

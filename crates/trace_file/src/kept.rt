@@ -18,6 +18,8 @@ const HINTS: usize = 512;
 #[derive(Clone, Copy)]
 pub struct Cause {
     pub number: u64,
+    /// of several cores, the number of the one that it is for; none of a line that is for all
+    pub core: Option<u64>,
     pub line: Line,
 }
 
@@ -95,11 +97,11 @@ impl Keeping {
     }
 
     /// As it was when it was made.
-    pub fn clear(&mut self, epoch: u64) {
+    pub fn clear(&mut self) {
         self.entries.as_mut_slice().fill(None);
         self.hints.as_mut_slice().fill(None);
         self.fetch = None;
-        self.epoch = epoch;
+        self.epoch = 0;
     }
 
     /// After a line that wrote a part of the core: no access filled the hint or the entry that it wrote.

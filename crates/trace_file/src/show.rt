@@ -1,5 +1,5 @@
-//! A line of output for an operation: its number in the trace, the operation, the answer, the descriptors
-//! that its walks read, and the core after it.
+//! A line of output for an operation: its number in the trace, of several cores the one that it is for, the operation,
+//! the answer, the descriptors that its walks read, and the core after it.
 use crate::said;
 use crate::words::Words;
 use core_parts::read;
@@ -66,6 +66,9 @@ pub enum Form {
 #[derive(Clone, Copy, Serialize)]
 pub struct Outcome {
     line: Count,
+    // of several cores, the one that was spoken to
+    #[serde(skip_serializing_if = Option::is_none)]
+    core_number: Option<Count>,
     operation: Shown<Operation>,
     #[serde(serialize_with = said::answer)]
     answer: Answer,
@@ -99,12 +102,13 @@ impl Pending {
 }
 
 impl After {
-    fn new(machine: &mut Machine) -> Self {
+    // Of the core that is spoken to, if there is one of its number.
+    fn new(machine: &mut Machine) -> Option<Self> {
         let ram = machine.window_digest();
         let el = machine.level();
-        let core = &machine.core;
+        let core = machine.cores.spoken_to()?;
         let tlb = &core.tlb;
-        After {
+        Some(After {
             counters: Levels::new(&tlb.levels),
             flushes: Count(tlb.flushes),
             drops: Count(tlb.drops),
@@ -122,7 +126,7 @@ impl After {
             entries: Digest::new(parts::entries(core)),
             hints: Digest::new(parts::hints(core)),
             ram: Hex(ram),
-        }
+        })
     }
 }
 
@@ -136,13 +140,17 @@ impl Outcome {
         machine: &mut Machine,
     ) -> Self {
         let Performed { answer, reads } = performed;
-        let words = (form == Form::Words).then(|| Words::new(operation, answer, &machine.core));
+        let words = match (form, machine.cores.spoken_to()) {
+            (Form::Words, Some(core)) => Some(Words::new(operation, answer, core)),
+            _ => None,
+        };
         let core = match form {
-            Form::Whole => Some(After::new(machine)),
+            Form::Whole => After::new(machine),
             _ => None,
         };
         Outcome {
             line: Count(line),
+            core_number: machine.cores.number().map(Count),
             operation: Shown::new(*operation),
             answer,
             reads: operation.reports().then_some(Count(reads)),
@@ -176,7 +184,11 @@ impl fmt::Display for After {
 impl fmt::Display for Outcome {
     fn fmt<W: fmt::Write>(&self, f: &mut fmt::Formatter<W>) -> fmt::Result {
         let operation = self.operation.value;
-        write!(f, "{} {operation} => {}", self.line.0, self.answer)?;
+        write!(f, "{} ", self.line.0)?;
+        if let Some(number) = self.core_number {
+            write!(f, "core {:x}: ", number.0)?;
+        }
+        write!(f, "{operation} => {}", self.answer)?;
         if let Some(reads) = self.reads {
             write!(f, " rd={:x}", reads.0)?;
         }

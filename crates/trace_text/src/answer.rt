@@ -37,6 +37,15 @@ pub fn attributes(leaf: Leaf) -> [u64; 4] {
 }
 
 impl Answer {
+    /// Whether the operation was refused, as a list of windows is that has a page which faults: it changed nothing.
+    pub fn refuses(self) -> bool {
+        match self {
+            Answer::Reply(reply) => reply.refuses(),
+            Answer::Page(_) => true,
+            _ => false,
+        }
+    }
+
     /// The answer in a record: its code, and three words more.
     pub fn words(self) -> [u64; 4] {
         match self {

@@ -80,6 +80,8 @@ pub enum Poke {
 #[derive(Clone, Copy)]
 pub enum Setup {
     Fresh,
+    /// operations go to the core of this number from now on; there are 0 to 3
+    Core(u64),
     Window { base: u64, len: usize },
     /// the window's bytes become 0
     Zero,
@@ -162,7 +164,7 @@ impl Line {
         match self {
             Line::Operation(Operation::Call(Call::Register(_, _))) | Line::Load(_) => true,
             Line::Operation(operation) => operation.moves_ram(),
-            Line::Setup(_) => true,
+            Line::Setup(setup) => !matches!(setup, Setup::Core(_)),
             Line::Bytes(_) => false,
         }
     }

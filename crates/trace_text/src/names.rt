@@ -1,5 +1,5 @@
-//! Names that stand in a trace for numbers: of lines, exceptions, kinds of access, views and regimes. Capitals do not matter,
-//! but in a line's own name; there they do not in `at`, `dc`, `ic` and `tlbi`.
+//! Names that stand in a trace for numbers: of lines, exceptions, kinds of access, views and regimes. Capitals do not
+//! matter, but in a line's own name; there they do not in `at`, `dc`, `ic` and `tlbi`.
 use crate::reason::Reason;
 use manual_words::nearest::Nearest;
 use sysreg::regs::Regime;
@@ -8,7 +8,7 @@ use tlb::access::Kind;
 // What a line may begin with.
 const LINES: &str =
     "fresh window zero load bytes poke tr dpa fpa ld st if sys at dc ic tlbi reg level mark x abort census win flip \
-    l-asid l-on l-untag l-walk l-bits l-perm l-bank l-vec l-syn \
+    core l-asid l-on l-untag l-walk l-bits l-perm l-bank l-vec l-syn \
     p-level p-pc p-spsel p-gen p-cnt p-bc w-word w-hint w-entry w-fetch";
 
 /// The exceptions, without what they carry.

@@ -223,6 +223,7 @@ impl<'a> Reader<'a> {
     fn line(&mut self, name: Word<'_>) -> Result<Line, Refusal> {
         Ok(match name.text {
             b"fresh" => Line::Setup(Setup::Fresh),
+            b"core" => Line::Setup(Setup::Core(self.next()?)),
             b"window" => Line::Setup(Setup::Window {
                 base: self.next()?,
                 len: self.length()?,

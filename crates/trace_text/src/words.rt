@@ -61,6 +61,7 @@ fn setup(code: u64, a: u64, b: u64) -> Option<Setup> {
         },
         62 => Setup::Zero,
         63 => Setup::Write { addr: a, value: b },
+        64 => Setup::Core(a),
         _ => return None,
     })
 }

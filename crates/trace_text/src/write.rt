@@ -115,6 +115,7 @@ impl fmt::Display for Setup {
     fn fmt<W: fmt::Write>(&self, f: &mut fmt::Formatter<W>) -> fmt::Result {
         match *self {
             Setup::Fresh => f.write_str("fresh"),
+            Setup::Core(number) => line(f, "core", &[number]),
             Setup::Window { base, len } => line(f, "window", &[base, len as u64]),
             Setup::Zero => f.write_str("zero"),
             Setup::Write { addr, value } => line(f, "poke", &[addr, value]),
