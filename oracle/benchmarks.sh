@@ -58,10 +58,11 @@ end. One argument of each call alternates between two values, so that a case sta
 | windows | 64 windows of sixteen pages, 1,024 pages by three tables and 516,096 comparisons; all apart, or the last window the first one again; sixteen windows of one page; each list there and turned round. The Rust's side is a list's bytes, `stage1_on`, `untag` and `walk` page by page and the permission bit, and then each pair in the same form as here, a page looked for up to a window's end (`oracle/harness/src/rust/windows.rs`): pimu has no such function. By std's `contains`, which ends at the page, it took 283 µs in a build in which the library took 188, and 158 in one in which no jump lies over a boundary of 32 bytes |
 | flip | two addresses of one page, a privileged read. None: a zero descriptor at level 0, of which all 64 bits are tried, 65 walks of one descriptor. Bit 0: a page by three tables, walked once, and once more without the first. The Rust's side is `stage1_on`, `untag` and `walk` and the permission bit around a bit that is flipped in RAM and back, over the descriptors that pimu's walk read (`oracle/harness/src/rust/flip.rs`): pimu has no such function |
 | frames | a total of hours, and the largest of all; the Rust's side is one function of rate and total, by a product of 128 bits, divided, and what that leaves (`bench/rust.rs`): pimu has no such function. A function of 48,000 a second alone is compiled to a division of 64 bits: 1.94 ns in a run in which the library took 2.58 |
+| four cores | a cluster, its cores alike; calls go to core 1. The Rust's side is four of pimu's cores in an array under the rule: the number is tested, the call made, and where it left something pending and was not refused, `broadcast.take()` and `invalidate` on the other three (`oracle/harness/src/bench/four.rs`). A TLBI is VAE1IS or VMALLE1IS, with 1,024 live entries in each core at the start |
 | register write | TCR_EL1 between two values; TTBR0_EL1 between two ASIDs; VBAR_EL1; SCTLR_EL1 to what it is |
 
 The bars: hint hits 1.05, on `fetch_pa` 1.5; entry hits of translate, data_pa and fetch_pa 1.1, of load, store and fetch 1.15; walks and faults of translations 1.05; stage 1 off 1.15; split accesses,
-TLBI, register writes and settings 1.2; DC ZVA 1.0; abort entry 1.6; the census 0.95; sample frames 1.0; lists of 64 windows 1.1; flipped bits 1.1, and 10 µs where none is found; on a lent core hint hit 1.3, entry hit 1.2, walks 0.95. The other cases have none. Until November 2026 hint hits
+TLBI, register writes and settings 1.2; DC ZVA 1.0; abort entry 1.6; the census 0.95; sample frames 1.0; four cores 1.1 by a hint and 1.2 of a TLBI; lists of 64 windows 1.1; flipped bits 1.1, and 10 µs where none is found; on a lent core hint hit 1.3, entry hit 1.2, walks 0.95. The other cases have none. Until November 2026 hint hits
 had 0.95 (translations) and 1.0 (loads and stores), entry hits of translations 1.05, a lent core 1.5, 1.8 and 1.5, and fetch, data_pa, DC ZVA, abort entry and settings none.
 
 ## How it was run
@@ -82,6 +83,10 @@ TEXT
     sed '/^$/,$d' "$work/table"
     echo
     echo "$(tail -n 1 "$work/table")."
+    echo
+    echo "Four cores beside one, in the library: by a hint the number of the core, its place and one test of what is pending come to a call's instructions; a TLBI is carried out four times."
+    echo
+    awk -f four.awk "$work/table"
     echo
     ./plain-section.sh "$work/plain-table"
     echo

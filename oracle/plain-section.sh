@@ -21,3 +21,7 @@ TEXT
 sed '/^$/,$d' "$1"
 echo
 echo "$(tail -n 1 "$1")."
+echo
+echo "Four cores beside one, as plain Rust:"
+echo
+awk -f "$(dirname "$0")/four.awk" "$1"

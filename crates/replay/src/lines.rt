@@ -37,9 +37,14 @@ fn brief(words: &mut Words<'_>, first: u64) -> [u64; 8] {
     short::words(first, a, b, c)
 }
 
+// How many words an operation has, of one core and of four.
+const OF_ONE: u64 = 8 + judge::AFTER as u64;
+
+const OF_FOUR: u64 = OF_ONE + judge::OF_FOUR as u64;
+
 // The bytes `A72REC03`, and as many words to an operation as are read here.
 fn is_record(head: &[u64; 8]) -> bool {
-    head[0] == u64::from_le_bytes(*b"A72REC03") && head[6] == 8 + judge::AFTER as u64
+    head[0] == u64::from_le_bytes(*b"A72REC03") && (head[6] == OF_ONE || head[6] == OF_FOUR)
 }
 
 impl<W: Write> Replay<'_, W> {
@@ -130,6 +135,7 @@ impl<W: Write> Replay<'_, W> {
         if !is_record(&head) {
             return self.faulty(Fault::NoRecord);
         }
+        self.several = head[6] == OF_FOUR;
         match self.all_lines(&mut words) {
             Ok(()) => {}
             Err(Stop::Broken(fault)) => self.faulty(fault)?,

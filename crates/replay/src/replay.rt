@@ -26,6 +26,8 @@ pub struct Replay<'a, W> {
     // how many records there were, and what they came to
     records: u64,
     total: Counts,
+    // whether the record that is replayed is one of four cores
+    pub several: bool,
     // of the record that is replayed: its lines, what it came to, its last case, and what its last operation
     // answered and read
     pub lines: u64,
@@ -54,6 +56,7 @@ impl<'a, W: Write> Replay<'a, W> {
             tally: Tally::new(),
             records: 0,
             total: Counts::default(),
+            several: false,
             lines: 0,
             counts: Counts::default(),
             case: Case::default(),
@@ -64,6 +67,7 @@ impl<'a, W: Write> Replay<'a, W> {
     /// A new record begins.
     pub fn restart(&mut self) {
         self.machine.restart();
+        self.several = false;
         self.lines = 0;
         self.counts = Counts::default();
         self.case = Case::default();

@@ -6,7 +6,7 @@ use thiserror::Error;
 /// A fault of the record itself.
 #[derive(Clone, Copy, Debug, Error)]
 pub enum Fault {
-    #[error("no record of the form A72REC03 with 39 words to an operation")]
+    #[error("no record of the form A72REC03 with 39 words to an operation, or 43 of four cores")]
     NoRecord,
     #[error("the last line is not whole")]
     ShortLine,

@@ -7,6 +7,7 @@
 //! The core as plain Rust may stand in the library's place: its methods, with their checks, behind one call each.
 mod cases;
 mod checked;
+mod four;
 #[cfg(feature = "rattle")]
 mod ours;
 mod plain;
@@ -114,6 +115,8 @@ pub struct Case {
     work: Work,
     args: [u64; 2],
     scene: Scene,
+    /// Whether there are four cores, all begun alike, of which one is called.
+    four: bool,
 }
 
 impl Case {
@@ -163,6 +166,8 @@ pub struct Pair {
     rust_ram: Ram,
     core: Held,
     plain: Box<a72::Core>,
+    /// The three sides where there are four cores.
+    four: Option<four::Quartet>,
     ram: Ram,
 }
 
@@ -178,6 +183,7 @@ impl Pair {
             args: case.args,
             core,
             plain,
+            four: case.four.then(|| four::Quartet::new(&rust)),
             rust: Box::new(rust),
             rust_ram: ram.clone(),
             ram,
@@ -186,6 +192,9 @@ impl Pair {
 
     /// `n` calls; a sum over their answers. Those that count stay at one level.
     pub fn run(&mut self, side: Side, n: usize) -> u64 {
+        if self.four.is_some() {
+            return self.run_four(side, n);
+        }
         let (work, args, ram) = (self.work, self.args, &mut self.rust_ram);
         match side {
             Side::Rust => self.rust.counting(|c| rust::run(work, args, &mut c.cpu, ram, n)),
@@ -200,13 +209,28 @@ impl Pair {
         }
     }
 
+    fn run_four(&mut self, side: Side, n: usize) -> u64 {
+        let (work, args) = (self.work, self.args);
+        let four = self.four.as_mut().expect("four cores");
+        match side {
+            Side::Rust => four.run_rust(work, args, &mut self.rust_ram, n),
+            #[cfg(feature = "rattle")]
+            Side::Ours => four.run_ours(work, args, &mut self.ram, n),
+            Side::Plain => four.run_plain(work, args, &mut self.ram, n),
+            _ => unreachable!("no side of four cores"),
+        }
+    }
+
     /// Whether the case has the side with the checks.
     pub fn has_checked(&self) -> bool {
-        checked::has(self.work)
+        self.four.is_none() && checked::has(self.work)
     }
 
     /// Whether the Rust and another side hold the same: whole state and RAM.
     pub fn agree(&self, side: Side) -> bool {
+        if let Some(four) = &self.four {
+            return four.agree(side == Side::Plain) && self.ram == self.rust_ram;
+        }
         let words = match side {
             Side::Plain => self.plain.words(),
             _ => saved(&self.core),

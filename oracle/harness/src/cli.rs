@@ -1,9 +1,12 @@
 //! What the programs share: arguments, usage, and the choice of a core. Exit status 0 is success, 1 a failure of
 //! what was tested, 2 a wrong call.
+use crate::cluster::boundary::CFour;
+use crate::cluster::plain::PlainFour;
+use crate::cluster::{Cluster, Four};
 use crate::domain::Reference;
 use crate::ffi::CCore;
-use crate::generate::Style;
-use crate::model::{DocCore, Mistake, MISTAKES};
+use crate::generate::{trace, trace_of_cores, Style};
+use crate::model::{DocCore, DocFour, Mistake, MISTAKES};
 use crate::op::Line;
 use crate::plain::PlainCore;
 use crate::rust::RustCore;
@@ -95,6 +98,15 @@ impl Args {
         self.value("--jobs").map_or(1, |text| self.parse(text))
     }
 
+    /// The lines of a seed's trace: of four cores with `--cores`.
+    pub fn made(&self, seed: u64, n: usize) -> Vec<Line> {
+        if self.flag("--cores") {
+            trace_of_cores(seed, n, self.style())
+        } else {
+            trace(seed, n, self.style())
+        }
+    }
+
     pub fn style(&self) -> Style {
         match (self.flag("--strict"), self.flag("--wild")) {
             (false, false) => Style::Full,
@@ -140,23 +152,45 @@ impl Args {
         self.foreign_core().unwrap_or_else(|| model())
     }
 
-    /// One core alone that does what ought to be done: the Rust in its domain and what stands in its place outside it,
-    /// the model, or the one behind the C boundary.
-    pub fn right_core(&self) -> Box<dyn Core> {
-        if ["--model", "--c", "--each", "--plain"].iter().any(|name| self.flag(name)) {
-            self.one_core()
-        } else {
-            Box::new(Reference::default())
+    /// Four cores beside the Rust's: the model's, right or with a mistake, those behind the C boundary or those of plain Rust.
+    pub fn other_cluster(&self) -> Box<dyn Cluster> {
+        match ["--c", "--each", "--plain"].map(|name| self.flag(name)) {
+            [false, false, false] => Box::new(DocFour::with_mistake(self.mistake())),
+            [true, false, false] => Box::new(CFour::new()),
+            [false, true, false] => self.each_of_four(),
+            [false, false, true] => Box::new(PlainFour::default()),
+            _ => self.fail("--c, --each and --plain exclude each other"),
         }
     }
 
-    /// One core alone: the Rust, the model, or the one behind the C boundary.
-    pub fn one_core(&self) -> Box<dyn Core> {
-        match (self.flag("--model"), self.foreign_core()) {
-            (false, None) => Box::new(RustCore::new()),
-            (true, None) => Box::new(DocCore::new()),
-            (false, Some(core)) => core,
-            (true, Some(_)) => self.fail("--model excludes --c, --each and --plain"),
+    #[cfg(feature = "rattle")]
+    fn each_of_four(&self) -> Box<dyn Cluster> {
+        Box::new(CFour::by_each())
+    }
+
+    #[cfg(not(feature = "rattle"))]
+    fn each_of_four(&self) -> Box<dyn Cluster> {
+        self.fail("--each wants the feature `rattle`")
+    }
+
+    /// What does what ought to be done, a core, or four where a trace names them: the Rust in its domain and what stands in
+    /// its place outside it, the model, or what is behind the C boundary, or plain Rust.
+    pub fn right_core(&self) -> Box<dyn Cluster> {
+        if ["--model", "--c", "--each", "--plain"].iter().any(|name| self.flag(name)) {
+            self.one_core()
+        } else {
+            Box::new(Four::<Reference>::default())
+        }
+    }
+
+    /// A core, or four where a trace names them: the Rust, the model, or what is behind the C boundary, or plain Rust.
+    pub fn one_core(&self) -> Box<dyn Cluster> {
+        let foreign = ["--c", "--each", "--plain"].iter().any(|name| self.flag(name));
+        match (self.flag("--model"), foreign) {
+            (false, false) => Box::new(Four::<RustCore>::default()),
+            (true, false) => Box::new(DocFour::default()),
+            (false, true) => self.other_cluster(),
+            (true, true) => self.fail("--model excludes --c, --each and --plain"),
         }
     }
 

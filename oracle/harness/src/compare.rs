@@ -4,6 +4,7 @@ use crate::domain::{self, Judge};
 use crate::op::{Ans, Line, Op};
 use crate::rust::RustCore;
 use crate::{feed, Core, Ram, State};
+use pimu::aarch64::access::Inval;
 
 /// An operation that the Rust, or what stands in its place, has just carried out.
 pub struct Step<'a> {
@@ -15,6 +16,8 @@ pub struct Step<'a> {
     pub judge: Judge,
     /// The other core has no such operation, so nothing was compared.
     pub left_out: bool,
+    /// Of four cores the number that was spoken to, and what was handed on.
+    pub cores: Option<(u64, Option<Inval>)>,
 }
 
 pub struct Difference {
@@ -23,7 +26,7 @@ pub struct Difference {
     pub report: String,
 }
 
-struct Side {
+pub(crate) struct Side {
     answer: Option<Ans>,
     reads: u64,
     state: State,
@@ -31,11 +34,11 @@ struct Side {
 }
 
 impl Side {
-    fn take(core: &dyn Core, answer: Option<Ans>, ram: &Ram) -> Side {
+    pub fn of(answer: Option<Ans>, reads: u64, state: State, ram: &Ram) -> Side {
         Side {
             answer,
-            reads: core.reads(),
-            state: core.state(),
+            reads,
+            state,
             ram: ram.clone(),
         }
     }
@@ -51,7 +54,7 @@ impl Side {
     }
 }
 
-fn report(line: &Line, rust: &Side, other: &Side) -> String {
+pub(crate) fn report(line: &Line, rust: &Side, other: &Side) -> String {
     format!(
         "{line}\n rust  {}\n other {}\nrust {}other {}",
         rust.line(),
@@ -86,6 +89,7 @@ pub fn compare(lines: &[Line], other: &mut dyn Core, mut watch: impl FnMut(Step)
             rust: &rust,
             judge,
             left_out: y.is_none(),
+            cores: None,
         });
         if y.is_none() {
             continue;
@@ -94,7 +98,10 @@ pub fn compare(lines: &[Line], other: &mut dyn Core, mut watch: impl FnMut(Step)
         let unwritten = other.seals() && !op.may_write_ram() && ram.writes == writes;
         let same = x == y && rust.reads() == other.reads();
         if !same || !other.holds(&rust) || !unwritten && ram != other_ram {
-            let (a, b) = (Side::take(&rust, x, &ram), Side::take(other, y, &other_ram));
+            let (a, b) = (
+                Side::of(x, rust.reads(), rust.state(), &ram),
+                Side::of(y, other.reads(), other.state(), &other_ram),
+            );
             return Some(Difference {
                 at,
                 report: report(line, &a, &b),

@@ -15,6 +15,8 @@ pub struct Event<'a> {
     pub after: &'a RustCore,
     pub ram: &'a Ram,
     pub judge: Judge,
+    /// What it handed on to the other cores.
+    pub shared: Option<access::Inval>,
 }
 
 fn exception(e: &Exception) -> &'static str {
@@ -47,6 +49,14 @@ impl Event<'_> {
             names.extend(self.by_address(va, size));
         }
         names.extend(self.by_level());
+        if let Some(what) = self.shared {
+            let what = match what {
+                access::Inval::All => "All",
+                access::Inval::Page(_) => "Page",
+                access::Inval::Asid(_) => "Asid",
+            };
+            names.push(("handed on to the other cores".into(), what.into()));
+        }
         if self.op.reports() {
             names.push(("descriptors read".into(), self.after.reads().to_string()));
         }

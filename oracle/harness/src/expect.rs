@@ -51,7 +51,7 @@ fn judge(text: &str, answer: Ans, core: &dyn Core) -> Vec<String> {
 pub fn hold(text: &str, core: &mut dyn Core) -> Result<Outcome, String> {
     let mut ram = Ram::default();
     let mut outcome = Outcome::default();
-    core.reset();
+    core.restart();
     for (i, l) in text.lines().enumerate() {
         let at = |e: String| format!("line {}: {e}", i + 1);
         let lines = Line::parse(l).map_err(at)?;

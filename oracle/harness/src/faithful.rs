@@ -6,12 +6,14 @@
 //! core without a cache; so is a list of windows, with what it comes to, and so is a flipped bit. A translation that walks reads the descriptors of the walk now, any other none; an operation
 //! reads what its translations do, and AT what a walk does, whatever the cache holds. After each step [`invariant`] is
 //! checked too.
+mod cores;
 mod invariant;
 mod past;
 
 use crate::model::{DocCore, Inval};
 use crate::op::{Ans, Line, Op};
-use crate::{feed, refusal, rust, Core, Ram};
+use crate::{feed, refusal, rust, Core, Ram, State};
+pub use cores::hold_cores;
 use past::{Past, Walk};
 
 /// What was seen.
@@ -28,6 +30,8 @@ pub struct Seen {
     pub censuses: u64,
     pub lists: u64,
     pub flips: u64,
+    /// Invalidations that a core carried out for another.
+    pub heard: u64,
 }
 
 /// One list of operations under test.
@@ -252,13 +256,16 @@ impl Trial<'_> {
         }
         self.feed(line, core, ram)?;
         self.reads_in_all(line, core)?;
-        let state = core.state();
-        if state.regs != self.bare.state().regs {
-            return Err("the registers are not those of the core without a cache".into());
-        }
-        invariant::holds(&state, &self.bare.regs, &self.past)
-            .map_err(|e| format!("nothing stands behind {e}"))
+        stands(&core.state(), &self.bare, &self.past)
     }
+}
+
+/// The registers are those of the core without a cache, and something stands behind all that is cached.
+fn stands(state: &State, bare: &DocCore, past: &Past) -> Result<(), String> {
+    if state.regs != bare.state().regs {
+        return Err("the registers are not those of the core without a cache".into());
+    }
+    invariant::holds(state, &bare.regs, past).map_err(|e| format!("nothing stands behind {e}"))
 }
 
 /// Test one list; the error says where and why faithfulness or the invariant broke.

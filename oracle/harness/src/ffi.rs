@@ -9,6 +9,7 @@
 //! [`CCore`] runs by `a72_step`, or, with the feature `rattle`, by the function for each operation (`ffi/each.rs`); the
 //! counts of a census are `a72_census`'s in both, what a list of windows comes to `a72_windows`'s, and a flipped bit
 //! `a72_flip`'s. What the core holds is what `a72_save` gives, after every operation, and what it shall hold goes in by `a72_restore`. Without the feature the model stands behind these functions.
+//! Four cores run by the functions of the names `a72_cluster_..` ([`four`], [`crate::cluster::boundary`]).
 //!
 //! # An operation: 8 words
 //!
@@ -46,11 +47,11 @@
 //! | 44 | `p-cnt`: hits and walks of EL0, flushes, drops, epoch become this, hits and walks of EL1 to EL3 0 | value |
 //! | 45 | `p-bc`: the pending broadcast is taken (none) | |
 //!
-//! Codes 1 to 15 are the list, and only they reach `a72_step`. 20 to 28
+//! Codes 1 to 15 are the list, and only they reach `a72_step` and `a72_cluster_step`. 20 to 28
 //! are leaves, which change nothing: the core behind the boundary has none, so they are left out for it and counted
 //! ([`Core::has`]). 40 to 45 are pokes, which only the comparer uses: the harness restores the core from saved words that
 //! it edited, or, by each function, calls the library's own setter where there is one (41, 43, 45). The lines of a trace around the operations have codes in files: 60 `fresh`; 61 `window` base, length; 62 `zero`; 63
-//! `poke` address, value; 64 `w-word` place, value; 65 `w-hint` slot, key, page; 66 `w-entry` slot, four words; 67
+//! `poke` address, value; 64 `core` number; 69 `w-word` place, value; 65 `w-hint` slot, key, page; 66 `w-entry` slot, four words; 67
 //! `w-fetch` page, level, physical page; 68 `bytes`: how many, at most 48, then they in six words, little-endian, the rest 0. They
 //! come to those that stand since the last `win`; a trace's line of more bytes is several of these.
 //!
@@ -66,7 +67,7 @@
 //! | 2 | none: `dpa`, `fpa` would fault; `l-bank` knows no such key; `win` no two windows share a page; `flip` no single bit changes the answer | |
 //! | 3 | a walk's leaf | address; permissions + level << 8; attribute index + shareability << 8 + NS << 16 + global << 24 |
 //! | 4 | pair: `l-bank` register and level; `l-syn` ESR and FAR; `win` two windows | first, second |
-//! | 5 | the check's number | 1 to 7, 9 |
+//! | 5 | the check's number | 1 to 9 |
 //! | 6, 7 | Undefined, Unimplemented | |
 //! | 8 | fault of a translation (also `l-walk`) | address, status |
 //! | 9 | data abort | address, status, write |
@@ -95,9 +96,12 @@
 //! behind the keys and flags that say 'none' is free.
 #[cfg(feature = "rattle")]
 pub mod each;
+pub mod four;
 #[path = "../../../bindings/rust-archive/src/held.rs"]
 mod held;
-mod looks;
+#[path = "../../../bindings/rust-archive/src/held_cluster.rs"]
+mod held_cluster;
+pub(crate) mod looks;
 pub(crate) mod poke;
 mod state;
 mod words;
@@ -111,8 +115,9 @@ use crate::place;
 use crate::rust::RustCore;
 use crate::wild::Part;
 use crate::{Core, Ram, State};
-pub use held::Held;
-pub use looks::{count, flip_into, windows_into};
+pub use held::{Held, CORE_SIZE, HANDLE_SIZE};
+pub use held_cluster::HeldCluster;
+pub use looks::Looks;
 use looks::{census, counted, flip, looked, windows};
 pub use state::{levels_of, state_of, words_of, ENTRY_WORDS, HINT_WORDS, LEVEL_WORDS, RETIRED};
 pub use words::{decode, decode_answer, encode, encode_answer, exception};
@@ -125,7 +130,7 @@ use stand_in as library;
 use library::a72_step;
 
 /// What stands where the library has to write: no answer and no saved word.
-const UNWRITTEN: u64 = 0xA5A5_A5A5_A5A5_A5A5;
+pub(crate) const UNWRITTEN: u64 = 0xA5A5_A5A5_A5A5_A5A5;
 
 /// A state's words.
 pub type Words = Box<place::State>;

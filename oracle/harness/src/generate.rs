@@ -2,6 +2,7 @@
 mod actions;
 mod address;
 mod census;
+mod cores;
 mod crossing;
 mod flat;
 mod flips;
@@ -17,6 +18,7 @@ mod window;
 mod windows;
 
 use crate::op::{Line, Op};
+pub use cores::trace_of_cores;
 pub use rng::Rng;
 use std::collections::BTreeMap;
 use tables::{Spot, Tree};
@@ -61,6 +63,8 @@ pub struct Generator {
     hot: usize,
     /// The last page of all and page 0 are both mapped.
     wrap: bool,
+    /// Where a trace is of four cores.
+    cores: Option<cores::Cores>,
 }
 
 /// A trace of about `n` operations; censuses, lists of windows, flipped bits, the accesses in [`crossing`] and what stands at the end
@@ -107,6 +111,7 @@ impl Generator {
             level: 3,
             hot: 0,
             wrap: false,
+            cores: None,
         }
     }
 

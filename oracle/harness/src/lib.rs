@@ -2,6 +2,7 @@
 pub mod bench;
 pub mod census;
 pub mod cli;
+pub mod cluster;
 pub mod compare;
 pub mod coverage;
 pub mod domain;
@@ -51,6 +52,14 @@ pub use state::State;
 pub trait Core {
     /// Become a fresh core, the one `Cpu::new` gives.
     fn reset(&mut self);
+    /// Be as a trace begins: one fresh core.
+    fn restart(&mut self) {
+        self.reset();
+    }
+    /// Of four cores the one with this number is spoken to from now on; one core alone becomes core 0 of four.
+    fn turn(&mut self, core: u64) {
+        unreachable!("one core alone: no core {core}")
+    }
     /// Whether the core has this operation. One that it has not is left out for it, and counted as such.
     fn has(&self, _op: &Op) -> bool {
         true
@@ -93,6 +102,7 @@ pub fn feed(line: &Line, core: &mut dyn Core, ram: &mut Ram) -> Option<Ans> {
         Line::Poke(addr, v) => ram.poke(*addr, *v),
         Line::Put(part) => core.put(part),
         Line::Bytes(piece) => ram.list.extend(piece.bytes()),
+        Line::Core(n) => core.turn(*n),
         Line::Op(op) if core.has(op) => {
             let answer = core.step(op, ram);
             ram.taken(op);

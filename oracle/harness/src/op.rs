@@ -116,7 +116,7 @@ pub enum Ans {
     Pair(u64, u64),
     /// Those of a census.
     Counts(Box<Counts>),
-    /// The numbers of the checks 1 to 7, and 9 of a list of windows that is none.
+    /// The numbers of the checks 1 to 7, 8 of a core that there is not, and 9 of a list of windows that is none.
     Number(u8),
     /// Of a list of windows the first page that faults: window, page, status.
     Page(u64, u64, u8),
@@ -135,6 +135,11 @@ pub enum Ans {
 }
 
 impl Ans {
+    /// Whether it says that nothing was done. Of a list of windows a page that faults does, too.
+    pub fn refuses(&self) -> bool {
+        matches!(self, Ans::Number(_) | Ans::Page(..) | Ans::Undefined | Ans::Unimplemented)
+    }
+
     /// What a right list of windows comes to.
     pub fn of(found: Found) -> Ans {
         match found {
@@ -159,5 +164,7 @@ pub enum Line {
     Put(Part),
     /// These bytes come to those of a list of windows, which the next [`Op::Windows`] takes.
     Bytes(Piece),
+    /// What follows is the core's of this number: of one of four from now on, or of none.
+    Core(u64),
     Op(Op),
 }

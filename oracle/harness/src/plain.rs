@@ -59,7 +59,7 @@ pub fn exception(e: Pimu) -> Exception {
     }
 }
 
-fn counted(census: &Census) -> Ans {
+pub fn counted(census: &Census) -> Ans {
     let mut counts = Box::new([0; COUNTS]);
     counts[STATUS..STATUS + 64].copy_from_slice(&census.statuses);
     counts[RIGHTS..RIGHTS + 64].copy_from_slice(&census.rights);
@@ -69,7 +69,11 @@ fn counted(census: &Census) -> Ans {
 
 /// What a list of windows comes to.
 pub fn windows(core: &a72::Core, ram: &a72::Ram, list: &[u8]) -> Ans {
-    match core.windows_of_bytes(ram, list) {
+    windows_of(core.windows_of_bytes(ram, list))
+}
+
+pub fn windows_of(found: Result<Option<(usize, usize)>, WindowsError>) -> Ans {
+    match found {
         Ok(pair) => Ans::of(Ok(pair)),
         Err(WindowsError::Page(f)) => Ans::Page(f.window as u64, f.page as u64, f.status.0),
         Err(refused) => Ans::Number(refused.number() as u8),
@@ -77,7 +81,7 @@ pub fn windows(core: &a72::Core, ram: &a72::Ram, list: &[u8]) -> Ans {
 }
 
 /// The answer of an operation that a stop ended.
-fn stopped(op: &Op, stop: Stop) -> Ans {
+pub fn stopped(op: &Op, stop: Stop) -> Ans {
     match (op, stop) {
         (_, Stop::Refused(check)) => Ans::Number(check.number() as u8),
         (_, Stop::Undefined) => Ans::Undefined,

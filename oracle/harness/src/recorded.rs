@@ -10,15 +10,15 @@ mod splits;
 mod statuses;
 mod tlbi;
 
+use crate::cluster::{place, Cluster, Four, CORES};
 use crate::compare::Step;
 use crate::coverage::Event;
-use crate::domain::{self, Judge};
+use crate::domain::{Judge, Reference};
 use crate::ffi::{encode, encode_answer};
 use crate::op::{Ans, Line, Op};
-use crate::rust::RustCore;
-use crate::state::PAR;
+use crate::state::{Hash, PAR};
 use crate::tally::Tally;
-use crate::{Core, Ram, State};
+use crate::{feed, Core, Ram, State};
 use std::collections::BTreeMap;
 
 /// The first word of a file: the bytes "A72REC03".
@@ -30,6 +30,9 @@ const LINE: usize = 39;
 const AFTER: usize = LINE - 8;
 const STATE: usize = AFTER - 5;
 
+/// The words of an operation's line where there are four cores: after the others a digest of each.
+const LINE_OF_FOUR: usize = LINE + CORES;
+
 /// What recorded traces show.
 #[derive(Default)]
 pub struct Shown {
@@ -38,8 +41,8 @@ pub struct Shown {
     pub names: BTreeMap<String, BTreeMap<String, u64>>,
 }
 
-/// The words about the state after an operation.
-fn summary(s: &State, ram: u64) -> [u64; STATE] {
+/// The words about a core.
+fn words_of(s: &State) -> [u64; STATE - 1] {
     let [l0, l1, l2, l3] = s.levels;
     [
         l0.hits,
@@ -67,8 +70,21 @@ fn summary(s: &State, ram: u64) -> [u64; STATE] {
         s.reg_digest(),
         s.entry_digest(),
         s.hint_digest(),
-        ram,
     ]
+}
+
+/// The words about the state after an operation: of the core that is spoken to, and of RAM. Where there is no such core the
+/// former are 0.
+fn summary(four: &dyn Cluster, ram: u64) -> [u64; STATE] {
+    let core = place(four.number()).map_or([0; STATE - 1], |i| words_of(&four.nth(i)));
+    let mut all = [ram; STATE];
+    all[..STATE - 1].copy_from_slice(&core);
+    all
+}
+
+/// A digest of each of the four.
+fn digests(four: &dyn Cluster) -> [u64; CORES] {
+    std::array::from_fn(|i| Hash::of(words_of(&four.nth(i))))
 }
 
 /// What a line has of the descriptors that this operation read; of a leaf's walk nothing.
@@ -81,7 +97,9 @@ fn reads_of(op: &Op, core: &dyn Core) -> u64 {
 }
 
 struct Recorder<'a> {
-    rust: RustCore,
+    four: Four<Reference>,
+    /// Whether a line names a core.
+    several: bool,
     ram: Ram,
     words: Vec<u64>,
     operations: u64,
@@ -93,8 +111,9 @@ struct Recorder<'a> {
 
 impl Recorder<'_> {
     fn line(&mut self, line: &Line) {
-        let before = self.rust.state();
-        let (answer, judge) = domain::feed(line, &mut self.rust, &mut self.ram);
+        let before = self.four.state();
+        let answer = feed(line, &mut self.four, &mut self.ram);
+        let judge = self.four.judge();
         self.words.extend(encode(line));
         self.longest = self.longest.max(self.ram.bytes.len() as u64);
         let (Line::Op(op), Some(answer)) = (line, answer) else {
@@ -103,13 +122,17 @@ impl Recorder<'_> {
         self.operations += 1;
         self.outside += (judge != Judge::Rust) as u64;
         self.words.extend(encode_answer(&answer));
-        self.words.extend(summary(&self.rust.state(), self.ram.digest()));
-        self.words.push(reads_of(op, &self.rust));
+        self.words.extend(summary(&self.four, self.ram.digest()));
+        self.words.push(reads_of(op, &self.four));
+        if self.several {
+            self.words.extend(digests(&self.four));
+        }
         self.show(op, &answer, &before, judge);
     }
 
     fn show(&mut self, op: &Op, answer: &Ans, before: &State, judge: Judge) {
-        let (rust, ram) = (&self.rust, &self.ram);
+        let (rust, ram) = (&self.four.spoken().rust, &self.ram);
+        let cores = self.several.then_some((self.four.number(), self.four.shared));
         self.shown.tally.note(&Step {
             op,
             answer,
@@ -117,6 +140,7 @@ impl Recorder<'_> {
             rust,
             judge,
             left_out: false,
+            cores,
         });
         for (subject, case) in (Event {
             op,
@@ -125,6 +149,7 @@ impl Recorder<'_> {
             after: rust,
             ram,
             judge,
+            shared: self.four.shared,
         })
         .names()
         {
@@ -142,7 +167,8 @@ impl Recorder<'_> {
 /// The file's bytes; what the trace shows is added to `shown`.
 pub fn record(lines: &[Line], shown: &mut Shown) -> Vec<u8> {
     let mut r = Recorder {
-        rust: RustCore::new(),
+        four: Four::default(),
+        several: lines.iter().any(|line| matches!(line, Line::Core(_))),
         ram: Ram::default(),
         words: Vec::new(),
         operations: 0,
@@ -152,7 +178,8 @@ pub fn record(lines: &[Line], shown: &mut Shown) -> Vec<u8> {
     };
     lines.iter().for_each(|l| r.line(l));
     let all = 8 + r.words.len() as u64;
-    let (lines, line) = (lines.len() as u64, LINE as u64);
+    let line = if r.several { LINE_OF_FOUR } else { LINE };
+    let (lines, line) = (lines.len() as u64, line as u64);
     let header = [MAGIC, all, lines, r.operations, r.longest, 0, line, r.outside];
     header
         .into_iter()

@@ -1,4 +1,4 @@
-//! The refusals 1 to 7 and 9 of docs/SCOPE.md.
+//! The refusals 1 to 7 and 9 of docs/SCOPE.md; 8 is that of four cores ([`crate::cluster`]).
 use crate::count::MOST_PAGES;
 use crate::op::Op;
 use crate::windows::List;

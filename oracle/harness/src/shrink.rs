@@ -1,23 +1,17 @@
 //! The shortest trace found that still tells the Rust from another core, by leaving lines out.
-use crate::compare::compare;
 use crate::op::Line;
-use crate::Core;
 
-/// The number of lines up to and with the first difference.
-fn differs(lines: &[Line], other: &mut dyn Core) -> Option<usize> {
-    compare(lines, other, |_| {}).map(|d| d.at + 1)
-}
-
-/// `None` where the trace shows no difference.
-pub fn shrink(mut lines: Vec<Line>, other: &mut dyn Core) -> Option<Vec<Line>> {
-    lines.truncate(differs(&lines, other)?);
+/// `None` where the trace shows no difference. `differs` gives the place of the first one, from 0.
+pub fn shrink(mut lines: Vec<Line>, mut differs: impl FnMut(&[Line]) -> Option<usize>) -> Option<Vec<Line>> {
+    let mut differs = |lines: &[Line]| differs(lines).map(|at| at + 1);
+    lines.truncate(differs(&lines)?);
     let mut chunk = lines.len() / 2;
     while chunk > 0 {
         let mut at = 0;
         while at < lines.len() {
             let mut fewer = lines.clone();
             fewer.drain(at..(at + chunk).min(lines.len()));
-            match differs(&fewer, other) {
+            match differs(&fewer) {
                 Some(n) => {
                     fewer.truncate(n);
                     lines = fewer;

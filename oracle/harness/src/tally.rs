@@ -1,9 +1,11 @@
 //! How often each operation gave each kind of answer.
+use crate::cluster::place;
 use crate::compare::Step;
 use crate::domain::Judge;
 use crate::op::{Ans, Op};
 use crate::Core;
 use pimu::aarch64::access::cpu::unprivileged;
+use pimu::aarch64::access::Inval;
 use std::fmt::{self, Display, Formatter};
 
 /// The kinds of operations, in the order of their names.
@@ -60,6 +62,12 @@ pub struct Tally {
     /// Of the crossing accesses of which the first page's byte outside RAM comes before the second page's fault; they
     /// are in no other number.
     by_order: Vec<[u64; CLASSES]>,
+    /// Of a core that there is not; they are in no other number.
+    by_contract: Vec<[u64; CLASSES]>,
+    /// Operations of each of four cores, and how often an All, a Page and an ASID were handed on; they are in the numbers
+    /// above, too.
+    pub by_core: [u64; 4],
+    pub shared: [u64; 3],
     /// Translations answered by a walk, an entry, a hint, or flat.
     via: [u64; 4],
     /// Operations that counted hits and those that counted walks, by level; last those at EL1 while unprivileged, which
@@ -78,6 +86,9 @@ impl Default for Tally {
             counts: vec![[0; CLASSES]; KINDS.len()],
             by_model: vec![[0; CLASSES]; KINDS.len()],
             by_order: vec![[0; CLASSES]; KINDS.len()],
+            by_contract: vec![[0; CLASSES]; KINDS.len()],
+            by_core: [0; 4],
+            shared: [0; 3],
             via: [0; 4],
             by_level: [[0; 2]; 5],
             by_reads: [0; 10],
@@ -168,9 +179,11 @@ impl Tally {
             Judge::Rust => &mut self.counts,
             Judge::Model => &mut self.by_model,
             Judge::Crossing(_) => &mut self.by_order,
+            Judge::Contract => &mut self.by_contract,
         };
         counts[kind(step.op)][class(step)] += 1;
-        if step.op.reports() {
+        self.note_cores(step);
+        if step.op.reports() && step.judge != Judge::Contract {
             self.by_reads[step.rust.reads().min(9) as usize] += 1;
         }
         if step.judge != Judge::Rust {
@@ -187,6 +200,19 @@ impl Tally {
                 _ => 3,
             };
             self.via[source] += 1;
+        }
+    }
+
+    fn note_cores(&mut self, step: &Step) {
+        let Some((number, shared)) = step.cores else { return };
+        if let Some(i) = place(number) {
+            self.by_core[i] += 1;
+        }
+        match shared {
+            Some(Inval::All) => self.shared[0] += 1,
+            Some(Inval::Page(_)) => self.shared[1] += 1,
+            Some(Inval::Asid(_)) => self.shared[2] += 1,
+            None => {}
         }
     }
 
@@ -207,11 +233,13 @@ impl Tally {
 
     /// Another tally's numbers, too.
     pub fn add(&mut self, other: &Tally) {
-        let mine = [&mut self.counts, &mut self.by_model, &mut self.by_order];
-        let theirs = [&other.counts, &other.by_model, &other.by_order];
+        let mine = [&mut self.counts, &mut self.by_model, &mut self.by_order, &mut self.by_contract];
+        let theirs = [&other.counts, &other.by_model, &other.by_order, &other.by_contract];
         for (mine, theirs) in mine.into_iter().flatten().zip(theirs.into_iter().flatten()) {
             mine.iter_mut().zip(theirs).for_each(|(a, b)| *a += b);
         }
+        self.by_core.iter_mut().zip(other.by_core).for_each(|(a, b)| *a += b);
+        self.shared.iter_mut().zip(other.shared).for_each(|(a, b)| *a += b);
         self.via.iter_mut().zip(other.via).for_each(|(a, b)| *a += b);
         let levels = self.by_level.iter_mut().flatten();
         levels
@@ -232,6 +260,11 @@ impl Tally {
         self.by_order.iter().flatten().sum()
     }
 
+    /// How many operations were of a core that there is not.
+    pub fn by_contract(&self) -> u64 {
+        self.by_contract.iter().flatten().sum()
+    }
+
     /// Rows of operation, number, and answers with their numbers, by name.
     pub fn rows(&self) -> impl Iterator<Item = (&'static str, u64, String)> + '_ {
         Tally::rows_of(&self.counts)
@@ -242,6 +275,7 @@ impl Tally {
         let judged = [
             ("by the second model", &self.by_model),
             ("by the order of faults", &self.by_order),
+            ("by the contract", &self.by_contract),
         ];
         judged.into_iter().flat_map(|(by, counts)| {
             Tally::rows_of(counts).map(move |(kind, n, answers)| (kind, by, n, answers))
@@ -273,6 +307,18 @@ impl Tally {
         format!("operations by descriptors read {}", parts.join(", "))
     }
 
+    /// How many operations were of which core, and what was handed on; of one core alone nothing.
+    pub fn cores(&self) -> Option<String> {
+        let [zero, one, two, three] = self.by_core;
+        let [all, page, asid] = self.shared;
+        let said = || {
+            format!(
+                "operations of four cores: {zero}, {one}, {two}, {three}; handed on: All {all}, Page {page}, Asid {asid}"
+            )
+        };
+        (self.by_core != [0; 4]).then(said)
+    }
+
     /// How many operations counted hits and walks at each level.
     pub fn levels(&self) -> String {
         let names = ["EL0", "EL1", "EL2", "EL3", "EL1 while unprivileged"];
@@ -295,6 +341,9 @@ impl Display for Tally {
         writeln!(f, "{}", self.sources())?;
         writeln!(f, "{}", self.levels())?;
         writeln!(f, "{}", self.reads())?;
+        if let Some(cores) = self.cores() {
+            writeln!(f, "{cores}")?;
+        }
         if self.left_out != 0 {
             writeln!(
                 f,

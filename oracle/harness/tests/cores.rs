@@ -84,7 +84,8 @@ fn what_the_boundary_leaves_out_is_counted() {
 #[test]
 fn a_mistake_is_found_and_shrunk() {
     let mut wrong = DocCore::with_mistake(Some(Mistake::PageKeepsHints));
-    let short = shrink(trace(1, 3000, Style::Strict), &mut wrong).expect("a difference");
+    let differs = |lines: &[Line]| compare(lines, &mut wrong, |_| {}).map(|d| d.at);
+    let short = shrink(trace(1, 3000, Style::Strict), differs).expect("a difference");
     assert!(short.len() < 20, "{} lines", short.len());
     assert!(compare(&short, &mut wrong, |_| {}).is_some());
     assert!(compare(&short, &mut DocCore::new(), |_| {}).is_none());
@@ -95,6 +96,7 @@ fn the_rust_is_faithful_and_not_without_flush_or_retag() {
     let hold = |rule| {
         let mut core = Reference {
             rust: RustCore::with_rule(rule),
+            ..Reference::default()
         };
         faithful::hold(&trace(1, 3000, Style::Strict), &mut core, &mut Default::default())
     };

@@ -35,6 +35,8 @@ fn compare() {
     tests_nothing(program, &["--seeds", "6", "5", "100"]);
     tests_nothing(program, &["--seeds", "5", "6", "100", "--jobs", "0"]);
     succeeds(program, &["--seeds", "5", "6", "100"]);
+    tests_nothing(program, &["--cores", "--seeds", "5", "5", "100"]);
+    succeeds(program, &["--cores", "--seeds", "5", "6", "100"]);
     let trace = file("comment.trace", b"# no operation\nfresh\nwindow 0 1000\n");
     tests_nothing(program, &[&trace]);
     std::fs::remove_file(trace).unwrap();
@@ -46,6 +48,8 @@ fn faithful() {
     tests_nothing(program, &["5", "5", "1000"]);
     tests_nothing(program, &["5", "6", "0"]);
     succeeds(program, &["5", "6", "3000"]);
+    tests_nothing(program, &["5", "6", "0", "--cores"]);
+    succeeds(program, &["5", "6", "3000", "--cores"]);
 }
 
 #[test]
@@ -70,7 +74,7 @@ fn expect() {
     assert_eq!(run(program, &[&empty]).0, Some(1));
     let one = file("one.trace", b"fresh\nlevel 1 #= ok\n");
     succeeds(program, &[&one]);
-    [none, empty, one].map(|f| std::fs::remove_file(f).unwrap());
+    [none, empty, one].into_iter().for_each(|f| std::fs::remove_file(f).unwrap());
 }
 
 #[test]
@@ -86,7 +90,7 @@ fn replay() {
         &record(&[magic, 9, 1, 1, 0, 0, 39, 0, 9 + 128 | 1 << 16]),
     );
     tests_nothing(program, &[&unjudged]);
-    [none, unjudged].map(|f| std::fs::remove_file(f).unwrap());
+    [none, unjudged].into_iter().for_each(|f| std::fs::remove_file(f).unwrap());
 }
 
 #[test]

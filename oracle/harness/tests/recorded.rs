@@ -1,11 +1,13 @@
 //! The recorded traces: their expectations on each core, and that the files are what the program makes.
+use harness::cluster::boundary::CFour;
+use harness::cluster::plain::PlainFour;
+use harness::cluster::{Cluster, Four};
 use harness::domain::Reference;
 use harness::expect::hold;
-use harness::ffi::CCore;
-use harness::model::DocCore;
+use harness::model::DocFour;
 use harness::recorded::{files, replay};
 use harness::rust::RustCore;
-use harness::{Core, Op};
+use harness::Op;
 use std::fs;
 use std::path::PathBuf;
 
@@ -17,11 +19,12 @@ fn records() -> PathBuf {
     PathBuf::from(env!("CARGO_MANIFEST_DIR")).join("../../crates/replay/data")
 }
 
-fn cores() -> [Box<dyn Core>; 3] {
+fn cores() -> [Box<dyn Cluster>; 4] {
     [
-        Box::new(Reference::default()),
-        Box::new(DocCore::new()),
-        Box::new(CCore::new()),
+        Box::new(Four::<Reference>::default()),
+        Box::new(DocFour::default()),
+        Box::new(CFour::new()),
+        Box::new(PlainFour::default()),
     ]
 }
 
@@ -49,6 +52,7 @@ fn expectations_hold() {
     held("reads.trace", 175);
     held("windows.trace", 115);
     held("flips.trace", 106);
+    held("cores.trace", 114);
 }
 
 #[test]
@@ -72,7 +76,7 @@ fn each_core_replays_them() {
             }
         }
     }
-    assert!(operations > 3 * 4000);
+    assert!(operations > 4 * 4000);
 }
 
 #[test]
@@ -80,9 +84,9 @@ fn a_changed_file_is_noticed() {
     let mut bytes = fs::read(records().join("cases.rec")).unwrap();
     let last = bytes.len() - 1;
     bytes[last] ^= 1;
-    assert!(replay::replay(&bytes, &mut RustCore::new()).is_err());
+    assert!(replay::replay(&bytes, &mut Four::<RustCore>::default()).is_err());
     bytes.truncate(last);
-    assert!(replay::replay(&bytes, &mut RustCore::new()).is_err());
+    assert!(replay::replay(&bytes, &mut Four::<RustCore>::default()).is_err());
 }
 
 #[test]

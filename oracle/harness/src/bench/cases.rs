@@ -19,6 +19,7 @@ const CENSUS: f64 = 0.95;
 const FRAMES: f64 = 1.0;
 const WINDOWS: f64 = 1.1;
 const FLIP: f64 = 1.1;
+const FOUR_HINT: f64 = 1.1;
 const LENT_HINT: f64 = 1.3;
 const LENT_ENTRY: f64 = 1.2;
 const LENT_WALK: f64 = 0.95;
@@ -54,7 +55,35 @@ fn case(name: &'static str, bar: impl Into<Option<f64>>, work: Work, args: [u64;
         work,
         args,
         scene,
+        four: false,
     }
+}
+
+/// Of one of four cores: a call by a hint, and what the other three carry out. Each is named as the case of one core that it
+/// is held to (`oracle/four.awk`).
+fn four() -> Vec<Case> {
+    let here = [page(PAGE), page(PAGE) | 8];
+    let inside = [page(PAGE) | 0x100, page(PAGE) | 0x108];
+    // TLBI VMALLE1IS, VAE1IS.
+    let [all, va] = [0, 1].map(|op2| [0, 8, 3, op2]);
+    let full = Scene {
+        full: true,
+        x: [PAGE, PAGE + 1],
+        ..scene()
+    };
+    let four = |name, bar: f64, work, args, scene| Case {
+        four: true,
+        ..case(name, bar, work, args, scene)
+    };
+    let tlbi = |name, fields| four(name, UPKEEP, Work::System(fields), [0, 1], full.clone());
+    vec![
+        four("four cores, translate: hint hit, read", FOUR_HINT, READ, here, scene()),
+        four("four cores, load 8: hint hit", FOUR_HINT, Work::Load(8), inside, scene()),
+        four("four cores, store 8: hint hit", FOUR_HINT, Work::Store(8), inside, scene()),
+        four("four cores, fetch: fetch hint hit", FOUR_HINT, Work::Fetch, here, scene()),
+        tlbi("four cores, TLBI Page, 1,024 live entries", va),
+        tlbi("four cores, TLBI All", all),
+    ]
 }
 
 fn scene() -> Scene {
@@ -149,6 +178,7 @@ pub fn cases() -> Vec<Case> {
         frames(),
         windows(),
         flips(),
+        four(),
     ]
     .into_iter()
     .flatten()

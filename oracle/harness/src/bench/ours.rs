@@ -2,8 +2,8 @@
 use super::checked::{flipped_of, met_of};
 use super::{both, fault, repeat, summed, told, Work, DONE, STORED};
 use crate::census::COUNTS;
-use crate::ffi::each::{frames_44100, frames_48000, Lent};
-use crate::ffi::{count, flip_into, windows_into, Held};
+use crate::ffi::each::{frames_44100, frames_48000, Calls, Lent};
+use crate::ffi::{Held, Looks};
 use crate::library::Answer;
 use crate::Ram;
 use a72::Rate;
@@ -11,30 +11,35 @@ use std::hint::black_box;
 
 pub fn run(work: Work, args: [u64; 2], core: &mut Held, ram: &mut Ram, n: usize) -> u64 {
     let base = black_box(ram.base);
-    let mut ans = Answer::default();
-    let a = &mut ans;
     if let Work::Census(pages) = work {
         let counts = &mut [0; COUNTS];
         return repeat(n, args, |first| {
-            let n = count(core, first, pages, counts, base, &ram.bytes);
+            let n = core.count(first, pages, counts, base, &ram.bytes);
             summed(n, told(counts), 0)
         });
     }
     if let Work::Windows(lists) = work {
         let (lists, out) = (lists.bytes(), &mut [0; 3]);
         return repeat(n, args, |i| {
-            let n = windows_into(core, &lists[i as usize], out, base, &ram.bytes);
+            let n = core.windows_into(&lists[i as usize], out, base, &ram.bytes);
             met_of(n, out)
         });
     }
     if let Work::Flip(kind, user) = work {
         let (kind, user, out) = (kind.into(), user.into(), &mut [0; 3]);
         return repeat(n, args, |va| {
-            let n = flip_into(core, va, kind, user, out, base, &mut ram.bytes);
+            let n = core.flip_into(va, kind, user, out, base, &mut ram.bytes);
             flipped_of(n, out)
         });
     }
-    let mut lent = Lent::new(core, base, &mut ram.bytes);
+    calls(work, args, Lent::new(core, base, &mut ram.bytes), n)
+}
+
+/// Calls of a core, or of one of a cluster's.
+#[inline(always)]
+pub fn calls(work: Work, args: [u64; 2], mut lent: impl Calls, n: usize) -> u64 {
+    let mut ans = Answer::default();
+    let a = &mut ans;
     match black_box(work) {
         Work::Translate(kind) => {
             let kind = kind.into();

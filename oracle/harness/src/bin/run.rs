@@ -1,10 +1,11 @@
 //! Replay a trace on one core and write its answers.
 use harness::cli::Args;
+use harness::cluster::place;
 use harness::{feed, Line, Ram};
 use std::io::Write;
 
 const USAGE: &str = "run TRACE [--full] [--right | --model | --c | --each]
-  A line for each operation: its line number, the operation, the answer, the descriptors that it read (rd), the state
+  A line for each operation: its line number, of four cores the one that it went to, the operation, the answer, the descriptors that it read (rd), the state
   after it. --full: the whole state too, and every count of a census that is not 0. On the Rust; --right: on the Rust
   in its domain and on what stands in its place outside it; --model: on the model; --c: on the core behind the C
   boundary (--each: by its function for each operation).";
@@ -34,18 +35,30 @@ fn main() -> std::io::Result<()> {
         if moves_ram(&line) {
             digest = ram.digest();
         }
+        let named = match core.is_several() {
+            true => format!("core {:x}: ", core.number()),
+            false => String::new(),
+        };
         let Some(answer) = answer else {
             if let Line::Op(op) = line {
-                writeln!(out, "{n} {op} => left out, the core has it not")?;
+                writeln!(out, "{n} {named}{op} => left out, the core has it not")?;
             }
             continue;
         };
-        let state = core.state();
         let reads = match line {
             Line::Op(op) if op.reports() => format!(" rd={:x}", core.reads()),
             _ => String::new(),
         };
-        writeln!(out, "{n} {line} => {answer}{reads} | {}", state.line(digest))?;
+        if place(core.number()).is_none() {
+            writeln!(out, "{n} {named}{line} => {answer}{reads}")?;
+            continue;
+        }
+        let state = core.state();
+        writeln!(
+            out,
+            "{n} {named}{line} => {answer}{reads} | {}",
+            state.line(digest)
+        )?;
         if args.flag("--full") {
             write!(out, "{}{}", answer.full(), state.full())?;
         }

@@ -35,52 +35,70 @@ frames! {
     frames_44100 a72_frames_44100;
 }
 
+/// The library's function for each operation, of a core or of one of a cluster's: its number.
+pub trait Calls {
+    fn translate(&mut self, va: u64, kind: u64, ans: &mut Answer) -> u64;
+    fn data_pa(&mut self, va: u64, ans: &mut Answer) -> u64;
+    fn fetch_pa(&mut self, va: u64, ans: &mut Answer) -> u64;
+    fn load(&mut self, va: u64, size: u64, ans: &mut Answer) -> u64;
+    fn store(&mut self, va: u64, size: u64, value: u64, ans: &mut Answer) -> u64;
+    fn fetch(&mut self, va: u64, ans: &mut Answer) -> u64;
+    /// `fields`: op1, CRn, CRm, op2, register.
+    fn system(&mut self, fields: [u64; 5], ans: &mut Answer) -> u64;
+    fn register(&mut self, key: u64, value: u64) -> u64;
+    fn level(&mut self, level: u64) -> u64;
+    fn mark(&mut self, mark: u64) -> u64;
+    fn general(&mut self, number: u64, value: u64) -> u64;
+    fn abort(&mut self, e: &[u64; 4]) -> u64;
+}
+
 impl<'a> Lent<'a> {
     pub fn new(core: &'a mut Held, base: u64, ram: &'a mut [u8]) -> Lent<'a> {
         let core = core.handle();
         Lent { core, base, ram }
     }
+}
 
+impl Calls for Lent<'_> {
     #[inline(always)]
-    pub fn translate(&mut self, va: u64, kind: u64, ans: &mut Answer) -> u64 {
+    fn translate(&mut self, va: u64, kind: u64, ans: &mut Answer) -> u64 {
         let ram = &*self.ram;
         unsafe { a72_translate(self.core, va, kind, ans, self.base, ram.as_ptr(), ram.len()) }
     }
 
     #[inline(always)]
-    pub fn data_pa(&mut self, va: u64, ans: &mut Answer) -> u64 {
+    fn data_pa(&mut self, va: u64, ans: &mut Answer) -> u64 {
         let ram = &*self.ram;
         unsafe { a72_data_pa(self.core, va, ans, self.base, ram.as_ptr(), ram.len()) }
     }
 
     #[inline(always)]
-    pub fn fetch_pa(&mut self, va: u64, ans: &mut Answer) -> u64 {
+    fn fetch_pa(&mut self, va: u64, ans: &mut Answer) -> u64 {
         let ram = &*self.ram;
         unsafe { a72_fetch_pa(self.core, va, ans, self.base, ram.as_ptr(), ram.len()) }
     }
 
     #[inline(always)]
-    pub fn load(&mut self, va: u64, size: u64, ans: &mut Answer) -> u64 {
+    fn load(&mut self, va: u64, size: u64, ans: &mut Answer) -> u64 {
         let ram = &*self.ram;
         unsafe { a72_load(self.core, va, size, ans, self.base, ram.as_ptr(), ram.len()) }
     }
 
     #[inline(always)]
-    pub fn store(&mut self, va: u64, size: u64, value: u64, ans: &mut Answer) -> u64 {
+    fn store(&mut self, va: u64, size: u64, value: u64, ans: &mut Answer) -> u64 {
         let ram = &mut *self.ram;
         let (at, len) = (ram.as_mut_ptr(), ram.len());
         unsafe { a72_store(self.core, va, size, value, ans, self.base, at, len) }
     }
 
     #[inline(always)]
-    pub fn fetch(&mut self, va: u64, ans: &mut Answer) -> u64 {
+    fn fetch(&mut self, va: u64, ans: &mut Answer) -> u64 {
         let ram = &*self.ram;
         unsafe { a72_fetch(self.core, va, ans, self.base, ram.as_ptr(), ram.len()) }
     }
 
-    /// `fields`: op1, CRn, CRm, op2, register.
     #[inline(always)]
-    pub fn system(&mut self, fields: [u64; 5], ans: &mut Answer) -> u64 {
+    fn system(&mut self, fields: [u64; 5], ans: &mut Answer) -> u64 {
         let [op1, crn, crm, op2, rt] = fields;
         let ram = &mut *self.ram;
         let (at, len) = (ram.as_mut_ptr(), ram.len());
@@ -88,27 +106,27 @@ impl<'a> Lent<'a> {
     }
 
     #[inline(always)]
-    pub fn register(&mut self, key: u64, value: u64) -> u64 {
+    fn register(&mut self, key: u64, value: u64) -> u64 {
         unsafe { a72_register(self.core, key, value) }
     }
 
     #[inline(always)]
-    pub fn level(&mut self, level: u64) -> u64 {
+    fn level(&mut self, level: u64) -> u64 {
         unsafe { a72_level(self.core, level) }
     }
 
     #[inline(always)]
-    pub fn mark(&mut self, mark: u64) -> u64 {
+    fn mark(&mut self, mark: u64) -> u64 {
         unsafe { a72_mark(self.core, mark) }
     }
 
     #[inline(always)]
-    pub fn general(&mut self, number: u64, value: u64) -> u64 {
+    fn general(&mut self, number: u64, value: u64) -> u64 {
         unsafe { a72_general(self.core, number, value) }
     }
 
     #[inline(always)]
-    pub fn abort(&mut self, e: &[u64; 4]) -> u64 {
+    fn abort(&mut self, e: &[u64; 4]) -> u64 {
         unsafe { a72_abort(self.core, e) }
     }
 }
@@ -160,6 +178,12 @@ pub(super) fn step(core: &mut Held, op: &Op, ram: &mut Ram) -> (Ans, u64) {
     let (at, len) = (ram.bytes.lent(op.may_write_ram()), ram.bytes.len());
     // Sound: the window's bytes, which `ram` lends. Where they are sealed nobody here writes them.
     let mut lent = Lent::new(core, ram.base, unsafe { std::slice::from_raw_parts_mut(at, len) });
+    call(&mut lent, op)
+}
+
+/// An operation that does not look, by its function: its answer, and the descriptors that it read.
+pub(crate) fn call(lent: &mut impl Calls, op: &Op) -> (Ans, u64) {
+    use Op::*;
     let quiet = |n| done(n, &BLANK);
     let mut ans = BLANK;
     let a = &mut ans;

@@ -1,8 +1,11 @@
 //! Without the feature `rattle` the model stands behind these functions, so that the boundary itself is tested. Where the
 //! library has a core there the model's words stand, in the same memory.
+mod four;
+
 use super::{boxed, decode, encode_answer, state_of, RETIRED};
 use crate::census::Counts;
-pub use crate::library::Handle;
+pub use crate::library::{ClusterHandle, Handle};
+pub use four::*;
 use crate::model::DocCore;
 use crate::number::{DONE, NAMES_NOTHING, PAGE_FAULTS};
 use crate::op::{Ans, Line, Op};

@@ -51,11 +51,12 @@ pub fn encode(line: &Line) -> [u64; 8] {
         Line::Window(base, len) => vec![61, base, len],
         Line::Zero => vec![62],
         Line::Poke(addr, v) => vec![63, addr, v],
-        Line::Put(Part::Word(place, v)) => vec![64, place.into(), v],
+        Line::Core(n) => vec![64, n],
         Line::Put(Part::Hint(slot, key, pa)) => vec![65, slot.into(), key, pa],
         Line::Put(Part::Entry(slot, r)) => vec![66, slot.into(), r[0], r[1], r[2], r[3]],
         Line::Put(Part::Fetch(page, level, pa)) => vec![67, page, level.into(), pa],
         Line::Bytes(piece) => [vec![68], piece.words()].concat(),
+        Line::Put(Part::Word(place, v)) => vec![69, place.into(), v],
         Line::Op(ref op) => operation(op),
     };
     let mut out = [0; 8];
@@ -106,11 +107,12 @@ pub fn decode(w: &[u64; 8]) -> Option<Line> {
         61 => Line::Window(w[1], w[2]),
         62 => Line::Zero,
         63 => Line::Poke(w[1], w[2]),
-        64 => Line::Put(Part::Word(w[1] as u16, w[2])),
+        64 => Line::Core(w[1]),
         65 => Line::Put(Part::Hint(w[1] as u16, w[2], w[3])),
         66 => Line::Put(Part::Entry(w[1] as u16, [w[2], w[3], w[4], w[5]])),
         67 => Line::Put(Part::Fetch(w[1], w[2] as u32, w[3])),
         68 => Line::Bytes(Piece::of_words(w[1], &w[2..])?),
+        69 => Line::Put(Part::Word(w[1] as u16, w[2])),
         _ => Line::Op(operation_of(w)?),
     })
 }

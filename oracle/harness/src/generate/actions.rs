@@ -86,7 +86,7 @@ impl Generator {
         self.restore_level();
     }
 
-    fn ask(&mut self, kind: u8, va: u64) {
+    pub(super) fn ask(&mut self, kind: u8, va: u64) {
         let by_hint = kind == 4 && self.r.percent(50);
         self.op(if by_hint {
             Op::FetchPa(va)
@@ -96,7 +96,7 @@ impl Generator {
     }
 
     /// Another descriptor for the spot, which the scenario may remember.
-    fn redescribe(&mut self, s: Spot) {
+    pub(super) fn redescribe(&mut self, s: Spot) {
         let oa = self.target(self.trees[s.tree], s.level);
         let mut d = self.leaf(s.level, oa);
         if self.r.percent(30) {
@@ -112,14 +112,17 @@ impl Generator {
     }
 
     /// Nothing, an ASID, all, another ASID in force, or mostly a page.
-    fn drop_something(&mut self, op1: u32, rt: u32, asid: u64) {
+    pub(super) fn drop_something(&mut self, op1: u32, rt: u32, asid: u64) {
         match self.r.below(8) {
             0 => {}
             1 => {
                 let crm = self.r.of(&[3, 7]);
                 self.op(Op::Sys(0, 8, crm, 2, rt));
             }
-            2 => self.op(Op::Sys(op1, 8, 7, 0, rt)),
+            2 => {
+                let crm = self.crm_of_all();
+                self.op(Op::Sys(op1, 8, crm, 0, rt));
+            }
             3 => self.other_asid(asid),
             _ => {
                 let op2 = if op1 == 0 {
@@ -171,7 +174,7 @@ impl Generator {
         }
     }
 
-    fn exception(&mut self) -> Exception {
+    pub(super) fn exception(&mut self) -> Exception {
         let va = self.address();
         let r = &mut self.r;
         let i = r.word() as u16;

@@ -37,7 +37,7 @@ impl Generator {
     }
 
     /// The window's place and size; true where 64 KiB tables may fit.
-    fn lay_window(&mut self) -> bool {
+    pub(super) fn lay_window(&mut self) -> bool {
         let r = &mut self.r;
         let base = match r.below(12) {
             0..=2 => 0,
@@ -60,7 +60,7 @@ impl Generator {
         big
     }
 
-    fn tcr(&mut self, level: usize, big: bool) -> u64 {
+    pub(super) fn tcr(&mut self, level: usize, big: bool) -> u64 {
         let last = self.base + self.len - 1;
         let need = (0..=4).find(|c| last >> pa_bits(*c) == 0).unwrap_or(4);
         let r = &mut self.r;
@@ -97,7 +97,7 @@ impl Generator {
     }
 
     /// Two trees for TTBR0_EL1, then TTBR1_EL1's, EL2's and EL3's.
-    fn plant_trees(&mut self, tcr: &[u64; 4]) {
+    pub(super) fn plant_trees(&mut self, tcr: &[u64; 4]) {
         for (regime, upper) in [(1, false), (1, false), (1, true), (2, false), (3, false)] {
             let t = tcr[regime as usize];
             let size = if upper { t >> 16 & 63 } else { t & 63 };
@@ -114,7 +114,7 @@ impl Generator {
         }
     }
 
-    fn map_pages(&mut self) {
+    pub(super) fn map_pages(&mut self) {
         let n = 18 + self.r.below(14);
         for i in 0..n {
             let before = self.spots.len();
@@ -153,7 +153,7 @@ impl Generator {
     }
 
     /// Some words in RAM beside the tables.
-    fn scatter(&mut self) {
+    pub(super) fn scatter(&mut self) {
         for _ in 0..20 {
             let a = self.base + self.r.below(self.len);
             if a >= self.free {
@@ -163,7 +163,7 @@ impl Generator {
         }
     }
 
-    fn choose_registers(&mut self, tcr: &[u64; 4]) {
+    pub(super) fn choose_registers(&mut self, tcr: &[u64; 4]) {
         let r = &mut self.r;
         for l in 1..=3 {
             self.regs.insert(MAIR[l], r.word());

@@ -44,7 +44,7 @@ impl Generator {
             self.op(Op::SetX(rt, x));
         }
         let op1 = self.r.of(&[0, 0, 0, 0, 4, 4, 6, 6, 5]);
-        let crm = self.r.of(&[3, 7, 3, 7, 7, 3, 7, 0, 1, 5]);
+        let crm = self.crm(&[3, 7, 3, 7, 7, 3, 7, 0, 1, 5]);
         let op2 = self.r.of(&[1, 1, 1, 2, 2, 3, 5, 7, 0, 4, 6]);
         self.rise(op1);
         self.op(Op::Sys(op1, 8, crm, op2, rt));

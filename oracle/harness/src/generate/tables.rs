@@ -197,7 +197,7 @@ impl Generator {
     }
 
     /// Write the tables down to the leaf's; stops early where a block is in the way.
-    fn map_page(&mut self, ti: usize, va: u64, leaf_level: u32, first: bool) {
+    pub(super) fn map_page(&mut self, ti: usize, va: u64, leaf_level: u32, first: bool) {
         let tree = self.trees[ti];
         let mut table = tree.root;
         for level in tree.start()..4 {

@@ -76,7 +76,7 @@ impl Generator {
     }
 
     /// Mostly few, so that most lists have no page that faults.
-    fn windows_here(&mut self) -> Vec<Window> {
+    pub(super) fn windows_here(&mut self) -> Vec<Window> {
         let n = self.r.of(&[0, 1, 2, 2, 2, 3, 3, 4, 5, 8]);
         (0..n).map(|_| self.window_here()).collect()
     }

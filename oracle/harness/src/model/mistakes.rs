@@ -115,12 +115,42 @@ pub enum Mistake {
     FlipRepeatedPassedOver,
     FlipOutsideIsNone,
     FlipCountsWalks,
+    CoresCallerHears,
+    CoresLastDeaf,
+    CoresNextAlone,
+    CoresMarkKept,
+    CoresCrm7,
+    CoresEveryTlbi,
+    CoresLate,
+    CoresModulo,
+    CoresLowWord,
+    CoresAfterLevel,
+    CoresAfterWindow,
+    CoresAfterAll,
+    CoresHintsAlone,
+    CoresHintsKept,
+    CoresEpochStill,
+    CoresFlushesStill,
+    CoresDropsStill,
+    CoresHeardTwice,
+    CoresPassedOn,
+    CoresPageIsAll,
+    CoresOwnGranule,
+    CoresOwnAsidSize,
+    CoresRefusedHandsOn,
+    CoresPageHandsOn,
+    CoresUndefinedHandsOn,
+    CoresUnimplementedHandsOn,
+    CoresFaultKeeps,
+    CoresLooksKeep,
+    CoresTlbiAlone,
+    CoresPutClean,
 }
 
 use Mistake::*;
 
 /// Each mistake with what it does, by number from 1.
-pub const MISTAKES: [(Mistake, &str); 113] = [
+pub const MISTAKES: [(Mistake, &str); 143] = [
     (FlagBeforeSize, "access flag judged before the output size"),
     (
         PageDropsOnePage,
@@ -330,4 +360,49 @@ pub const MISTAKES: [(Mistake, &str); 113] = [
         "a flipped bit: none where a descriptor is outside RAM",
     ),
     (FlipCountsWalks, "a flipped bit moves the counter of walks"),
+    (CoresCallerHears, "a core hears what it hands on itself"),
+    (CoresLastDeaf, "core 3 hears nothing"),
+    (CoresNextAlone, "the next core alone hears"),
+    (CoresMarkKept, "what was handed on stays pending"),
+    (CoresCrm7, "TLBI with CRm 7 is handed on"),
+    (CoresEveryTlbi, "every TLBI is handed on"),
+    (CoresLate, "a core hears at its own next operation"),
+    (CoresModulo, "the number of a core taken modulo 4"),
+    (CoresLowWord, "of the number of a core the low 32 bits taken"),
+    (CoresAfterLevel, "the number of a core judged after the level"),
+    (CoresAfterWindow, "the number of a core judged after the window"),
+    (CoresAfterAll, "the number of a core judged after all other checks"),
+    (CoresHintsAlone, "what is heard drops hints alone"),
+    (CoresHintsKept, "what is heard keeps hints"),
+    (CoresEpochStill, "epoch stays where something is heard"),
+    (CoresFlushesStill, "flushes stay where something is heard"),
+    (CoresDropsStill, "drops stay where something is heard"),
+    (CoresHeardTwice, "what is heard is carried out twice"),
+    (CoresPassedOn, "what is heard is pending in its turn"),
+    (CoresPageIsAll, "a Page is heard as All"),
+    (CoresOwnGranule, "a Page is heard by the hearer's granule"),
+    (CoresOwnAsidSize, "an ASID is heard by the hearer's size of one"),
+    (CoresRefusedHandsOn, "an operation that a number refuses hands on what is pending"),
+    (CoresPageHandsOn, "a list of windows of which a page faults hands on what is pending"),
+    (CoresUndefinedHandsOn, "an Undefined operation hands on what is pending"),
+    (CoresUnimplementedHandsOn, "an Unimplemented operation hands on what is pending"),
+    (CoresFaultKeeps, "an operation that faults hands nothing on"),
+    (CoresLooksKeep, "what only looks hands nothing on"),
+    (CoresTlbiAlone, "a TLBI alone hands on what is pending"),
+    (CoresPutClean, "a core that is put in has nothing pending"),
 ];
+
+/// The first of the mistakes of four cores: those before it are of one core.
+pub const OF_CORES: usize = 113;
+
+impl Mistake {
+    /// Whether it is of four cores.
+    pub fn is_of_cores(self) -> bool {
+        self as usize >= OF_CORES
+    }
+
+    /// Whether it shows only where a core was put in with something pending.
+    pub fn wants_pending(self) -> bool {
+        self as usize >= CoresRefusedHandsOn as usize
+    }
+}

@@ -72,7 +72,7 @@ impl DocCore {
     }
 
     /// A broadcast: one that differs from the pending one makes it All.
-    fn tell_others(&mut self, what: Inval) {
+    pub(super) fn tell_others(&mut self, what: Inval) {
         self.broadcast = match self.broadcast {
             Some(p) if p != what || self.makes(Mistake::EqualBroadcastIsAll) => Some(Inval::All),
             _ => Some(what),

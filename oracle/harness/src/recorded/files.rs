@@ -1,21 +1,24 @@
 //! The recorded files: which there are, and whether they are what this program makes now.
 use super::{aborts, bits, ranges, record, splits, statuses, tlbi, Shown};
-use crate::generate::{trace, Style};
+use crate::generate::{trace, trace_of_cores, Style};
 use crate::op::Line;
 use std::fmt::Write;
 use std::path::Path;
 use std::{fs, io};
 
-/// Generated traces: name, seed, operations, style. The seeds were chosen for what they add to the table.
-const GENERATED: [(&str, u64, usize, Style); 8] = [
-    ("list-1", 34, 200, Style::Strict),
-    ("list-2", 1441, 200, Style::Strict),
-    ("list-3", 772, 200, Style::Strict),
-    ("list-4", 690, 200, Style::Strict),
-    ("list-5", 1485, 200, Style::Strict),
-    ("list-6", 957, 200, Style::Strict),
-    ("list-7", 583, 200, Style::Strict),
-    ("mixed-1", 5, 250, Style::Full),
+/// Generated traces: name, seed, operations, style, and whether of four cores. The seeds were chosen for what they add to the table.
+const GENERATED: [(&str, u64, usize, Style, bool); 11] = [
+    ("list-1", 34, 200, Style::Strict, false),
+    ("list-2", 1441, 200, Style::Strict, false),
+    ("list-3", 772, 200, Style::Strict, false),
+    ("list-4", 690, 200, Style::Strict, false),
+    ("list-5", 1485, 200, Style::Strict, false),
+    ("list-6", 957, 200, Style::Strict, false),
+    ("list-7", 583, 200, Style::Strict, false),
+    ("mixed-1", 5, 250, Style::Full, false),
+    ("cores-1", 111, 300, Style::Strict, true),
+    ("cores-2", 137, 300, Style::Strict, true),
+    ("cores-3", 96, 300, Style::Strict, true),
 ];
 
 /// Where the table stands in the README.
@@ -45,10 +48,16 @@ fn text(head: &str, lines: &[Line]) -> String {
 fn made() -> Vec<(String, String)> {
     let mut all: Vec<(String, String)> = GENERATED
         .iter()
-        .map(|(name, seed, n, style)| {
+        .map(|(name, seed, n, style, cores)| {
             let strict = if *style == Style::Strict { " --strict" } else { "" };
-            let head = format!("generate {seed} {n}{strict}");
-            (format!("{name}.trace"), text(&head, &trace(*seed, *n, *style)))
+            let (of_cores, lines) = match cores {
+                true => (" --cores", trace_of_cores(*seed, *n, *style)),
+                false => ("", trace(*seed, *n, *style)),
+            };
+            (
+                format!("{name}.trace"),
+                text(&format!("generate {seed} {n}{of_cores}{strict}"), &lines),
+            )
         })
         .collect();
     for (name, head, lines) in [

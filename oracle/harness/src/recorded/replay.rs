@@ -1,9 +1,10 @@
 //! Hold a core to a recorded file.
 use super::short::{expand, Case};
-use super::{reads_of, summary, AFTER, LINE, MAGIC};
+use super::{digests, reads_of, summary, AFTER, LINE, LINE_OF_FOUR, MAGIC};
+use crate::cluster::Cluster;
 use crate::ffi::{decode, encode_answer};
 use crate::op::{Line, Op};
-use crate::{feed, Core, Ram};
+use crate::{feed, Ram};
 
 fn words(bytes: &[u8]) -> Result<Vec<u64>, String> {
     let words: Vec<u64> = bytes
@@ -13,7 +14,7 @@ fn words(bytes: &[u8]) -> Result<Vec<u64>, String> {
     let whole = |n: u64| n as usize == words.len() && 8 * words.len() == bytes.len();
     match words.get(..8) {
         Some(&[MAGIC, n, _, operations, .., line, outside])
-            if whole(n) && line == LINE as u64 && outside <= operations =>
+            if whole(n) && [LINE, LINE_OF_FOUR].contains(&(line as usize)) && outside <= operations =>
         {
             Ok(words)
         }
@@ -35,7 +36,9 @@ pub struct Replayed {
 }
 
 struct Replay<'a> {
-    core: &'a mut dyn Core,
+    core: &'a mut dyn Cluster,
+    /// Whether a digest of each of four cores stands after an operation's other words.
+    several: bool,
     ram: Ram,
     rest: &'a [u64],
     answer: [u64; 4],
@@ -81,21 +84,25 @@ impl Replay<'_> {
         self.answer = encode_answer(&answer);
         self.done.judged += want.is_some() as u64;
         match want {
-            Some(want) => self.judge(&op, want).map_err(|e| format!("{op}: {e}")),
+            Some(want) => self.judge(&op, &want).map_err(|e| format!("{op}: {e}")),
             None => Ok(()),
         }
     }
 
-    fn tail(&mut self) -> Option<[u64; AFTER]> {
-        let (want, rest) = self.rest.split_first_chunk::<AFTER>()?;
+    fn tail(&mut self) -> Option<Vec<u64>> {
+        let n = AFTER + if self.several { LINE_OF_FOUR - LINE } else { 0 };
+        let (want, rest) = self.rest.split_at_checked(n)?;
         self.rest = rest;
-        Some(*want)
+        Some(want.to_vec())
     }
 
-    fn judge(&self, op: &Op, want: [u64; AFTER]) -> Result<(), String> {
-        let after = summary(&self.core.state(), self.ram.digest());
-        let is = [self.answer.as_slice(), &after, &[reads_of(op, &*self.core)]].concat();
-        match (0..AFTER).find(|&i| is[i] != want[i]) {
+    fn judge(&self, op: &Op, want: &[u64]) -> Result<(), String> {
+        let after = summary(&*self.core, self.ram.digest());
+        let mut is = [self.answer.as_slice(), &after, &[reads_of(op, &*self.core)]].concat();
+        if self.several {
+            is.extend(digests(&*self.core));
+        }
+        match (0..want.len()).find(|&i| is[i] != want[i]) {
             Some(i) => Err(format!("word {} is {:x}, not {:x}", 8 + i, is[i], want[i])),
             None => Ok(()),
         }
@@ -103,11 +110,12 @@ impl Replay<'_> {
 }
 
 /// The error says which line first went otherwise.
-pub fn replay(bytes: &[u8], core: &mut dyn Core) -> Result<Replayed, String> {
+pub fn replay(bytes: &[u8], core: &mut dyn Cluster) -> Result<Replayed, String> {
     let words = words(bytes)?;
-    core.reset();
+    core.restart();
     let mut r = Replay {
         core,
+        several: words[6] == LINE_OF_FOUR as u64,
         ram: Ram::default(),
         rest: words.get(8..).ok_or("no whole header")?,
         answer: [0; 4],
