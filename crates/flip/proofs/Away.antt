@@ -1,5 +1,5 @@
 -- A walk that goes on below a level, or finds a leaf there, never ends in a translation fault of that level; nor does its answer.
-use Rattle.std.specs.Prelude.{◌≡◌, ◌≢◌, Bool, not, ◌||◌, Option, Some, Ok, Err}
+use Rattle.std.specs.Prelude.{◌≡◌, ◌≢◌, Bool, not, ◌||◌, ◌&&◌, Option, Some, Ok, Err}
 use Rattle.std.proofs.Common.{refl, arith}
 use Rattle.std.proofs.Math.Bool.{true, false}
 use Prim.Native.Nat.{ℕ, zero, suc, ◌+◌, ◌-◌, ◌<◌, ◌≤◌}
@@ -9,7 +9,7 @@ use Rattle.sysreg.specs.declared.regs.Regime.{Regime}
 use Rattle.walk.specs.Walk.{walked_of}
 use Rattle.walk.specs.Descriptor.{valid, table_or_page}
 use Rattle.walk.specs.Table.{status_of, Result, mapped, faults, firstblocklevel, Lookup, Next, deeper, ends, descaddr}
-use Rattle.walk.specs.Table.{table_next, leaf_result, level_next, lookup_next, on_next, walk_from, table_walk}
+use Rattle.walk.specs.Table.{table_next, leaf_result, level_next, lookup_next, walk_from, table_walk}
 use Rattle.walk.specs.Order.{NoLeafAt, params_at, Reached}
 use Rattle.walk.specs.declared.{regime.Bank.Bank, level.Params.Params}
 use Rattle.walk.proofs.Order.{stage}
@@ -71,14 +71,7 @@ module _ (s : Bank) (r : Regime) (va : ℕ) (memory : ℕ → Option ℕ) (l : L
       let st = stage s r va memory reached in
       let n : 4 - l.level ≡ suc (3 - l.level) = omega (arith, st.level) in
       let e : lookup_next memory p va l ≡ level_next p va l desc = rw word refl in
-      rw (st.walk, n, walk_from, e) (go (level_next p va l desc) (here-away p va l.level st.level l desc refl v t))
-    where
-      p : Params
-      p = params_at s r va
-
-      go : (x : Next) → AwayNext (4 + l.level) l.level x → AwayFrom (4 + l.level) (on_next x (walk_from (3 - l.level) memory p va))
-      go (deeper k) d = from-away p va l.level (stage s r va memory reached).level (3 - l.level) memory k d.1 (omega (arith, d.0))
-      go (ends x) d = d
+      rw (st.walk, n, walk_from, e) (grind (arith, here-away p va l.level st.level l desc refl v t, from-away p va l.level st.level (3 - l.level) memory))
 
 pub no-leaf : (p : Params) (l : Lookup) (desc : ℕ) → l.level ≤ 3 → leads p l desc ≡ false → NoLeafAt p l desc
 no-leaf p l desc h t = grind arith
@@ -90,24 +83,14 @@ abbrev pub Away : ℕ → Answer → Type 0
 Away n (Ok a) = Unit {0}
 Away n (Err f) = f.fsc ≢ n
 
-away-before : (n : ℕ) (x : Answer) → Away n x → same_answer x (Err (first n)) ≡ false
-away-before n x h = grind (arith, ne_eqb)
+-- whether it is away from the status, or the fault of that status
+abbrev pub Ends : ℕ → Bool → Answer → Type 0
+Ends n true x = Away n x
+Ends n false x = x ≡ Err (first n)
 
-away-after : (n : ℕ) (x : Answer) → Away n x → same_answer (Err (first n)) x ≡ false
-away-after n x h = grind (arith, ne_eqb)
-
-fault-same : (n : ℕ) → same_answer (Err (first n)) (Err (first n)) ≡ true
-fault-same n = grind arith
-
-module _ (n : ℕ) (x y : Answer) where
-  pub differ-after : x ≡ Err (first n) → Away n y → not (same_answer x y) ≡ true
-  differ-after e h = rw (e, away-after n y h) refl
-
-  pub differ-before : Away n x → y ≡ Err (first n) → not (same_answer x y) ≡ true
-  differ-before h e = rw (e, away-before n x h) refl
-
-  pub alike : x ≡ Err (first n) → y ≡ Err (first n) → not (same_answer x y) ≡ false
-  alike e z = rw (e, z, fault-same n) refl
+-- two answers, of which one at most is away, differ where one is
+pub differ : (n : ℕ) (a b : Bool) (x y : Answer) → Ends n a x → Ends n b y → (a && b) ≡ false → not (same_answer x y) ≡ (a || b)
+differ n a b x y h k z = grind (arith, ne_eqb)
 
 pub walked-away : (singlepriv wxn : Bool) (top bit va : ℕ) (x : Result) → top ≤ 3 → AwayFrom (4 + top) x
     → Away (4 + top) (walk_answer (walked_of singlepriv wxn x) bit va)

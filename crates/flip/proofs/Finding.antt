@@ -54,21 +54,11 @@ module _ (q : Question) (base : ℕ) (ram : List ℕ) where
 
       pub found-none : NoneBelow at 64 → None ≡ first_in q base ram d
       unfolding first_in
-      found-none b =
-          let p = inside at h in
-          rw (p.0) (sym (find-nowhere (λ f. changes q base ram (number_of_bit base f)) 64 (λ i. record { pa = d; bit = i }) (rw (p.1) at b)))
+      found-none b = grind (arith, find-nowhere (λ f. changes q base ram (number_of_bit base f)) 64 (λ i. record { pa = d; bit = i }))
 
 pub ruleset bits_tried = (outside, here-changes, here-keeps, none-below-0, none-more, found-bit, found-none)
 
 -- THE DESCRIPTORS
-
-or-some : {A : Type 0} (r p : Option A) → is_some r ≡ true → option_or r p ≡ r
-or-some None p s = cc
-or-some (Some a) p s = refl
-
-or-none : {A : Type 0} (r p : Option A) → is_some r ≡ false → option_or r p ≡ p
-or-none None p s = refl
-or-none (Some a) p s = cc
 
 module _ (q : Question) (base : ℕ) (ram : List ℕ) where
   pub stage-off : (x : Bool) → x ≡ stage1_on q.bank q.regime → x ≡ false → None ≡ first_flip q base ram
@@ -101,9 +91,9 @@ module _ (q : Question) (base : ℕ) (ram : List ℕ) where
         so ∙ ap (find_map (first_in q base ram)) (rw is at more)
 
     pub rest-found : (w : Visit) → v ≡ Some w → (r : Option FlippedBit) → r ≡ first_in q base ram w.at → is_some r ≡ true → r ≡ first_flip q base ram
-    rest-found w e r h s = sym (at-visit w e ∙ rw (← h) (or-some r (rest_from (n + 1)) s))
+    rest-found w e r h s = grind (arith, at-visit w e)
 
     pub rest-more : (w : Visit) → v ≡ Some w → (r : Option FlippedBit) → r ≡ first_in q base ram w.at → is_some r ≡ false → first_flip q base ram ≡ rest_from (n + 1)
-    rest-more w e r h s = at-visit w e ∙ rw (← h) (or-none r (rest_from (n + 1)) s)
+    rest-more w e r h s = grind (arith, at-visit w e)
 
 pub ruleset descriptors_tried = (stage-off, rest-begins, rest-ends, rest-past, rest-found, rest-more)

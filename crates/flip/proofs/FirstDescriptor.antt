@@ -1,24 +1,22 @@
 -- What is found is bit 0 or bit 1 of the first descriptor, or nothing: clearing bit 0 there ends the walk in a translation fault of that level, in
 -- which no walk ends that goes on below it.
-use Rattle.std.specs.Prelude.{◌≡◌, Bool, not, ◌||◌, List, [], ◌∷◌, length, Option, Some, None, Err, slice_get}
-use Rattle.std.proofs.Common.{refl, sym, ap, ◌∙◌, subst, arith}
+use Rattle.std.specs.Prelude.{◌≡◌, Bool, not, ◌||◌, ◌&&◌, List, [], ◌∷◌, length, Option, Some, None, slice_get}
+use Rattle.std.proofs.Common.{refl, sym, ◌∙◌, subst, arith}
 use Rattle.std.proofs.Math.Bool.{true, false}
 use Prim.Native.Nat.{ℕ, zero, suc, ◌+◌, ◌-◌, ◌*◌, ◌<◌, ◌≤◌}
-use Rattle.word.proofs.RamLaws.{within_low, within-high}
 use Rattle.word.specs.Places.{bits}
 use Rattle.word.specs.Ram.{within, word_at, little_endian}
-use Rattle.fault.specs.First.{first}
 use Rattle.sysreg.specs.declared.regs.Regime.{Regime}
 use Rattle.walk.specs.Fetches.{after_next, fetches_from, fetches_range, fetches_of}
 use Rattle.walk.specs.Fresh.{fresh_of}
 use Rattle.walk.specs.Regime.{stage1_on}
 use Rattle.walk.specs.Descriptor.{valid, table_or_page}
-use Rattle.walk.specs.Table.{Result, faults, translation, external_abort, in_range, beyond, Lookup, ends, startlevel, first_lookup, range_of, lookup_next}
+use Rattle.walk.specs.Table.{in_range, beyond, Lookup, startlevel, first_lookup, range_of, lookup_next}
 use Rattle.walk.specs.Walk.{walk_of}
 use Rattle.walk.specs.Order.{params_at, Reached, entry}
 use Rattle.walk.specs.declared.{regime.Bank.Bank, range.Range.Range, level.Params.Params}
 use Rattle.walk.proofs.SizeLaws.{start-level}
-use Rattle.walk.proofs.Order.{stage, invalid-next, descriptor-invalid, leaf-not-allowed}
+use Rattle.walk.proofs.Order.{Stage, stage, invalid-next, descriptor-invalid, leaf-not-allowed}
 use Rattle.tlb.specs.Model.{need}
 use Rattle.tlb.specs.declared.access.Kind.{Kind}
 use Rattle.tlb.specs.Fresh.{walk_answer, fresh_answer}
@@ -27,18 +25,10 @@ use Rattle.flip.specs.Flip.{flipped, number_of_bit, changes, descriptors, first_
 use Rattle.flip.specs.FirstDescriptor.{address_of, first_table, descriptor_in, has_blocks, EachFirst}
 use Rattle.flip.specs.declared.{FlippedBit.FlippedBit, Question.Question}
 use Rattle.flip.proofs.Search.{find-here, find-nowhere}
-use Rattle.flip.proofs.Frame.{length-flipped}
-use Rattle.flip.proofs.LowBits.{valid-0, table-0, table-1, valid-above}
-use Rattle.flip.proofs.Away.{leads, no-leaf, walk-away, Away, differ-after, differ-before, alike, walked-away}
-
-no-table : (a b : Bool) → (a || b) ≡ false → a ≡ false
-no-table a b h = grind arith
-
--- a word is of RAM where all its bytes are
-word-inside : (base : ℕ) (ram : List ℕ) (pa w : ℕ) → word_at base ram 8 pa ≡ Some w
-    → (within base (length ram) 8 pa ≡ true) × (little_endian ram 8 (pa - base) ≡ w)
-unfolding word_at
-word-inside base ram pa w e = grind arith
+use Rattle.flip.proofs.Flipping.{length-flipped, flip-turned, flip-kept}
+use Rattle.flip.proofs.FlipLaws.{word-inside}
+use Rattle.flip.proofs.LowBits.{valid-is, table-is}
+use Rattle.flip.proofs.Away.{leads, no-leaf, walk-away, Ends, differ, walked-away}
 
 word-outside : (base : ℕ) (ram : List ℕ) (pa : ℕ) → word_at base ram 8 pa ≡ None → within base (length ram) 8 pa ≡ false
 unfolding word_at
@@ -55,6 +45,12 @@ record Begun (q : Question) (l : Lookup) : Type 0 where
 begun : (q : Question) (l : Lookup) → first_table q ≡ Some l → Begun q l
 unfolding first_table
 begun q l e = grind arith
+
+-- what is found in a descriptor: by whether it is valid, and whether it may lead to more than a translation fault of its level
+abbrev told_by : ℕ → Bool → Bool → Option FlippedBit
+told_by d v true = Some (record { pa = d; bit = 0 })
+told_by d true false = Some (record { pa = d; bit = 1 })
+told_by d false false = None
 
 module _ (q : Question) (base : ℕ) (l : Lookup) (b : Begun q l) where
   abbrev s : Bank
@@ -83,22 +79,20 @@ module _ (q : Question) (base : ℕ) (l : Lookup) (b : Begun q l) where
   answer-is ram = rw b.on refl
 
   -- the answer by the first descriptor's word: a translation fault of its level, or no such fault
-  module _ (ram : List ℕ) (desc : ℕ) (word : word_at base ram 8 at ≡ Some desc) where
-    answer-invalid : valid desc ≡ false → answer_on q base ram ≡ Err (first (4 + l.level))
-    answer-invalid v = rw (answer-is ram, descriptor-invalid s r va (word_at base ram 8) l (begins (word_at base ram 8)) desc word v) refl
+  answer-by : (ram : List ℕ) (desc : ℕ) → word_at base ram 8 at ≡ Some desc → Ends (4 + l.level) (valid desc && leads p l desc) (answer_on q base ram)
+  unfolding walk_of
+  answer-by ram desc word = rw (answer-is ram) (go (valid desc) (leads p l desc) refl refl)
+    where
+      memory : ℕ → Option ℕ
+      memory = word_at base ram 8
 
-    answer-no-leaf : leads p l desc ≡ false → answer_on q base ram ≡ Err (first (4 + l.level))
-    answer-no-leaf t =
-        let st = stage s r va (word_at base ram 8) (begins (word_at base ram 8)) in
-        let no = no-leaf p l desc st.level t in
-        rw (answer-is ram, leaf-not-allowed s r va (word_at base ram 8) l (begins (word_at base ram 8)) desc word no) refl
+      st : Stage s r va memory l
+      st = stage s r va memory (begins memory)
 
-    answer-leads : valid desc ≡ true → leads p l desc ≡ true → Away (4 + l.level) (answer_on q base ram)
-    unfolding walk_of
-    answer-leads v t =
-        let memory = word_at base ram 8 in
-        let st = stage s r va memory (begins memory) in
-        rw (answer-is ram) (walked-away _ _ l.level _ _ _ st.level (walk-away s r va memory l (begins memory) desc word v t))
+      go : (v t : Bool) → valid desc ≡ v → leads p l desc ≡ t → Ends (4 + l.level) (v && t) (walk_answer (walk_of s r va memory) (need q.kind q.user) q.va)
+      go true true v t = walked-away _ _ l.level _ _ _ st.level (walk-away s r va memory l (begins memory) desc word v t)
+      go true false v t = rw (leaf-not-allowed s r va memory l (begins memory) desc word (no-leaf p l desc st.level t)) refl
+      go false t v _ = rw (descriptor-invalid s r va memory l (begins memory) desc word v) refl
 
   -- WHAT IS FOUND, in the descriptor and then in the whole
   module _ (ram : List ℕ) where
@@ -109,23 +103,12 @@ module _ (q : Question) (base : ℕ) (l : Lookup) (b : Begun q l) where
         let n : 4 - startlevel g ≡ suc (3 - startlevel g) = omega (arith, start-level g) in
         rw (b.on, b.ranged, b.small, b.enabled, ← b.is, n, fetches_from) refl
 
-    flip-found : (f : FlippedBit) → first_in q base ram at ≡ Some f → first_flip q base ram ≡ Some f
-    unfolding first_flip
-    flip-found f e = rw (descriptors-are, e) refl
-
-    flip-none : (x : Result) → lookup_next (word_at base ram 8) p va l ≡ ends x → first_in q base ram at ≡ None → first_flip q base ram ≡ None
-    unfolding first_flip
-    flip-none x ended e = rw (descriptors-are, ended, e) refl
-
     first-fetched : slice_get (descriptors q base ram) 0 ≡ Some at
     first-fetched = rw descriptors-are refl
 
     first-outside : word_at base ram 8 at ≡ None → first_flip q base ram ≡ None
-    unfolding lookup_next first_in
-    first-outside e =
-        let none = word-outside base ram at e in
-        let x : lookup_next (word_at base ram 8) p va l ≡ ends (faults (external_abort l.level)) = rw e refl in
-        flip-none (faults (external_abort l.level)) x (rw none refl)
+    unfolding first_flip lookup_next first_in
+    first-outside e = rw descriptors-are (grind (arith, word-outside base ram at e))
 
     module _ (desc : ℕ) (word : word_at base ram 8 at ≡ Some desc) where
       abbrev start : ℕ
@@ -134,8 +117,15 @@ module _ (q : Question) (base : ℕ) (l : Lookup) (b : Begun q l) where
       abbrev with_bit : ℕ → List ℕ
       with_bit i = flipped ram (8 * start + i)
 
-      abbrev leading : ℕ → Bool
-      leading = leads p l
+      abbrev matters : ℕ → Bool
+      matters i = changes q base ram (8 * start + i)
+
+      -- the word with a bit the other way
+      abbrev other : ℕ → ℕ
+      other i = little_endian (with_bit i) 8 start
+
+      abbrev goes : ℕ → Bool
+      goes d = valid d && leads p l d
 
       in-ram : within base (length ram) 8 at ≡ true
       in-ram = (word-inside base ram at desc word).0
@@ -143,110 +133,78 @@ module _ (q : Question) (base : ℕ) (l : Lookup) (b : Begun q l) where
       word-is : little_endian ram 8 start ≡ desc
       word-is = (word-inside base ram at desc word).1
 
-      room : start + 8 ≤ length ram
-      room = omega (arith, within_low base (length ram) 8 at in-ram, within-high base (length ram) 8 at in-ram)
-
-      word-with : (i : ℕ) → word_at base (with_bit i) 8 at ≡ Some (little_endian (with_bit i) 8 start)
+      word-with : (i : ℕ) → word_at base (with_bit i) 8 at ≡ Some (other i)
       unfolding word_at
       word-with i = rw (length-flipped ram (8 * start + i), in-ram) refl
 
-      found-at : (i : ℕ) → i < 64 → ((j : ℕ) → j < i → changes q base ram (8 * start + j) ≡ false) → changes q base ram (8 * start + i) ≡ true
-          → first_flip q base ram ≡ Some (record { pa = at; bit = i })
-      unfolding first_in
+      change-is : (i : ℕ) → (goes (other i) && goes desc) ≡ false → matters i ≡ (goes (other i) || goes desc)
+      change-is i z = differ (4 + l.level) _ _ _ _ (answer-by (with_bit i) (other i) (word-with i)) (answer-by ram desc word) z
+
+      low-0 : (valid (other 0) ≡ not (valid desc)) × (table_or_page (other 0) ≡ table_or_page desc)
+      low-0 =
+          let room : 8 * start + 0 < 8 * length ram = grind (arith, in-ram) in
+          grind (
+            arith,
+            word-is,
+            valid-is ram start,
+            valid-is (with_bit 0) start,
+            flip-turned ram (8 * start + 0) room,
+            table-is ram start,
+            table-is (with_bit 0) start,
+            flip-kept ram (8 * start + 0) (8 * start + 1),
+          )
+
+      low-1 : (valid (other 1) ≡ valid desc) × (table_or_page (other 1) ≡ not (table_or_page desc))
+      low-1 =
+          let room : 8 * start + 1 < 8 * length ram = grind (arith, in-ram) in
+          grind (
+            arith,
+            word-is,
+            valid-is ram start,
+            valid-is (with_bit 1) start,
+            flip-turned ram (8 * start + 1) room,
+            table-is ram start,
+            table-is (with_bit 1) start,
+            flip-kept ram (8 * start + 1) (8 * start + 0),
+          )
+
+      low-above : (i : ℕ) → 1 ≤ i → valid (other i) ≡ valid desc
+      low-above i h = grind (arith, word-is, valid-is ram start, valid-is (with_bit i) start, flip-kept ram (8 * start + i) (8 * start + 0))
+
+      bit-0 : matters 0 ≡ leads p l desc
+      bit-0 = grind (arith, change-is 0, low-0)
+
+      bit-1 : leads p l desc ≡ false → matters 1 ≡ valid desc
+      bit-1 t = grind (arith, change-is 1, low-1)
+
+      no-bit : valid desc ≡ false → leads p l desc ≡ false → (i : ℕ) → i < 64 → matters i ≡ false
+      no-bit v t zero h = bit-0 ∙ t
+      no-bit v t (suc i) h = grind (arith, change-is (suc i), low-above (suc i))
+
+      found-at : (i : ℕ) → i < 64 → ((j : ℕ) → j < i → matters j ≡ false) → matters i ≡ true → first_flip q base ram ≡ Some (record { pa = at; bit = i })
+      unfolding first_flip first_in
       found-at i h none change =
           let found = find-here (λ f. changes q base ram (number_of_bit base f)) 64 (λ j. record { pa = at; bit = j }) i h none change in
-          flip-found (record { pa = at; bit = i }) (rw in-ram found)
+          rw (descriptors-are, in-ram, found) refl
 
-      -- a bit of the descriptor flipped: whether it is valid, and whether it leads
-      abbrev other : ℕ → ℕ
-      other i = little_endian (with_bit i) 8 start
+      found-by : (v t : Bool) → valid desc ≡ v → leads p l desc ≡ t → first_flip q base ram ≡ told_by at v t
+      unfolding first_flip lookup_next first_in
+      found-by v true ev et = found-at 0 (omega arith) (λ j h. absurd (omega arith)) (bit-0 ∙ et)
+      found-by true false ev et = found-at 1 (omega arith) (λ j h. let z : j ≡ 0 = omega arith in rw z (bit-0 ∙ et)) (bit-1 et ∙ ev)
+      found-by false false ev et =
+          let none = find-nowhere (λ f. changes q base ram (number_of_bit base f)) 64 (λ j. record { pa = at; bit = j }) (no-bit ev et) in
+          rw (descriptors-are, word, invalid-next p va l desc ev, in-ram, none) refl
 
-      other-valid : valid (other 0) ≡ not (valid desc)
-      other-valid = valid-0 ram start room ∙ ap (λ (w : ℕ). not (valid w)) word-is
+-- WHAT IS FOUND, told by the first table and the word read in it
 
-      other-leads : leading (other 0) ≡ leading desc
-      other-leads =
-          ap (λ (t : Bool). t || has_blocks p.largegrain l.level) (table-0 ram start room ∙ ap table_or_page word-is)
+abbrev told_in : ℕ → Bool → Option ℕ → Option FlippedBit
+told_in d blocks None = None
+told_in d blocks (Some desc) = told_by d (valid desc) (table_or_page desc || blocks)
 
-      -- bit 0 means nothing where bit 1 is clear and no block may stand
-      still-0 : leading desc ≡ false → changes q base ram (8 * start + 0) ≡ false
-      still-0 t =
-          alike (4 + l.level) _ _ (answer-no-leaf (with_bit 0) (other 0) (word-with 0) (other-leads ∙ t)) (answer-no-leaf ram desc word t)
-
-      valid-leads : valid desc ≡ true → leading desc ≡ true → first_flip q base ram ≡ Some (record { pa = at; bit = 0 })
-      valid-leads v t =
-          found-at 0 (omega arith) (λ j h. absurd (omega arith))
-          (differ-after (4 + l.level) _ _ (answer-invalid (with_bit 0) (other 0) (word-with 0) (other-valid ∙ ap not v)) (answer-leads ram desc word v t))
-
-      invalid-leads : valid desc ≡ false → leading desc ≡ true → first_flip q base ram ≡ Some (record { pa = at; bit = 0 })
-      invalid-leads v t =
-          found-at 0 (omega arith) (λ j h. absurd (omega arith))
-          (differ-before (4 + l.level) _ _ (answer-leads (with_bit 0) (other 0) (word-with 0) (other-valid ∙ ap not v) (other-leads ∙ t))
-          (answer-invalid ram desc word v))
-
-      still-below : leading desc ≡ false → (j : ℕ) → j < 1 → changes q base ram (8 * start + j) ≡ false
-      still-below t j h = let z : j ≡ 0 = omega arith in rw z (still-0 t)
-
-      valid-alone : valid desc ≡ true → leading desc ≡ false → first_flip q base ram ≡ Some (record { pa = at; bit = 1 })
-      valid-alone v t =
-          let ov : valid (other 1) ≡ true = valid-above ram start room 1 (omega arith) ∙ ap valid word-is ∙ v in
-          let ot : table_or_page (other 1) ≡ true = table-1 ram start room ∙ ap (λ (w : ℕ). not (table_or_page w)) word-is ∙ ap not (no-table _ _ t) in
-          let ol : leading (other 1) ≡ true = rw ot refl in
-          found-at 1 (omega arith) (still-below t)
-          (differ-before (4 + l.level) _ _ (answer-leads (with_bit 1) (other 1) (word-with 1) ov ol) (answer-no-leaf ram desc word t))
-
-      still : valid desc ≡ false → leading desc ≡ false → (j : ℕ) → j < 64 → changes q base ram (8 * start + j) ≡ false
-      still v t zero h = still-0 t
-      still v t (suc j) h =
-          alike (4 + l.level) _ _
-          (answer-invalid (with_bit (suc j)) (other (suc j)) (word-with (suc j)) (valid-above ram start room (suc j) (omega arith) ∙ ap valid word-is ∙ v))
-          (answer-invalid ram desc word v)
-
-      invalid-alone : valid desc ≡ false → leading desc ≡ false → first_flip q base ram ≡ None
-      unfolding lookup_next first_in
-      invalid-alone v t =
-          let x : lookup_next (word_at base ram 8) p va l ≡ ends (faults (translation l.level))
-          = rw word (invalid-next p va l desc v) in
-          let none = find-nowhere (λ f. changes q base ram (number_of_bit base f)) 64 (λ j. record { pa = at; bit = j }) (still v t) in
-          flip-none (faults (translation l.level)) x (rw in-ram none)
-
--- BITS 1:0 of the word
-
-three : (desc : ℕ) → bits desc 1 0 ≡ 3 → (valid desc ≡ true) × (table_or_page desc ≡ true)
-three desc h = grind arith
-
-two : (desc : ℕ) → bits desc 1 0 ≡ 2 → (valid desc ≡ false) × (table_or_page desc ≡ true)
-two desc h = grind arith
-
-one : (desc : ℕ) → bits desc 1 0 ≡ 1 → (valid desc ≡ true) × (table_or_page desc ≡ false)
-one desc h = grind arith
-
-none : (desc : ℕ) → bits desc 1 0 ≡ 0 → (valid desc ≡ false) × (table_or_page desc ≡ false)
-none desc h = grind arith
-
-pub bits-11 : EachFirst (λ blocks desc bit_of found. bits desc 1 0 ≡ 3 → found ≡ Some (bit_of 0))
-bits-11 q base ram l desc e word h = let d = three desc h in valid-leads q base l (begun q l e) ram desc word d.0 (rw d.1 refl)
-
-pub bits-10 : EachFirst (λ blocks desc bit_of found. bits desc 1 0 ≡ 2 → found ≡ Some (bit_of 0))
-bits-10 q base ram l desc e word h = let d = two desc h in invalid-leads q base l (begun q l e) ram desc word d.0 (rw d.1 refl)
-
-pub bits-01-block : EachFirst (λ blocks desc bit_of found. bits desc 1 0 ≡ 1 → blocks ≡ true → found ≡ Some (bit_of 0))
-bits-01-block q base ram l desc e word h k = let d = one desc h in valid-leads q base l (begun q l e) ram desc word d.0 (rw (d.1, k) refl)
-
-pub bits-01 : EachFirst (λ blocks desc bit_of found. bits desc 1 0 ≡ 1 → blocks ≡ false → found ≡ Some (bit_of 1))
-bits-01 q base ram l desc e word h k = let d = one desc h in valid-alone q base l (begun q l e) ram desc word d.0 (rw (d.1, k) refl)
-
-pub bits-00-block : EachFirst (λ blocks desc bit_of found. bits desc 1 0 ≡ 0 → blocks ≡ true → found ≡ Some (bit_of 0))
-bits-00-block q base ram l desc e word h k = let d = none desc h in invalid-leads q base l (begun q l e) ram desc word d.0 (rw (d.1, k) refl)
-
-pub bits-00 : EachFirst (λ blocks desc bit_of found. bits desc 1 0 ≡ 0 → blocks ≡ false → found ≡ None)
-bits-00 q base ram l desc e word h k = let d = none desc h in invalid-alone q base l (begun q l e) ram desc word d.0 (rw (d.1, k) refl)
-
-not-both : (x : Option FlippedBit) (f : FlippedBit) → x ≡ None → x ≡ Some f → ⊥
-not-both x f n e = grind arith
-
-low-bits : (x : Option FlippedBit) (f : FlippedBit) (d b : ℕ) → x ≡ Some f → x ≡ Some (record { pa = d; bit = b }) → b ≤ 1 → (f.pa ≡ d) × (f.bit ≤ 1)
-low-bits x f d b e z h = grind arith
+abbrev told_at : Question → ℕ → List ℕ → Option Lookup → Option FlippedBit
+told_at q base ram None = None
+told_at q base ram (Some l) =
+    told_in (descriptor_in q l) (has_blocks (params_at q.bank q.regime (address_of q)).largegrain l.level) (word_at base ram 8 (descriptor_in q l))
 
 module _ (q : Question) (base : ℕ) (ram : List ℕ) where
   nothing-read : first_table q ≡ None → descriptors q base ram ≡ []
@@ -257,57 +215,55 @@ module _ (q : Question) (base : ℕ) (ram : List ℕ) where
   unfolding first_flip
   not-begun e = (nothing-read e, rw (nothing-read e) refl)
 
-  module _ (l : Lookup) (e : first_table q ≡ Some l) where
-    pub fetched : slice_get (descriptors q base ram) 0 ≡ Some (descriptor_in q l)
-    fetched = first-fetched q base l (begun q l e) ram
+  pub fetched : (l : Lookup) → first_table q ≡ Some l → slice_get (descriptors q base ram) 0 ≡ Some (descriptor_in q l)
+  fetched l e = first-fetched q base l (begun q l e) ram
 
-    pub outside : word_at base ram 8 (descriptor_in q l) ≡ None → first_flip q base ram ≡ None
-    outside n = first-outside q base l (begun q l e) ram n
+  pub outside : (l : Lookup) → first_table q ≡ Some l → word_at base ram 8 (descriptor_in q l) ≡ None → first_flip q base ram ≡ None
+  outside l e n = first-outside q base l (begun q l e) ram n
 
-    told : (f : FlippedBit) → first_flip q base ram ≡ Some f → (f.pa ≡ descriptor_in q l) × (f.bit ≤ 1)
-    told f h = go (word_at base ram 8 (descriptor_in q l)) refl
-      where
-        go : (w : Option ℕ) → word_at base ram 8 (descriptor_in q l) ≡ w → (f.pa ≡ descriptor_in q l) × (f.bit ≤ 1)
-        go None w = absurd (not-both _ f (outside w) h)
-        go (Some desc) w = by-bits (valid desc) (leads (params_at q.bank q.regime (address_of q)) l desc) refl refl
-          where
-            begin : Begun q l
-            begin = begun q l e
+  told-word : (l : Lookup) (desc : ℕ) → first_table q ≡ Some l → word_at base ram 8 (descriptor_in q l) ≡ Some desc
+      → first_flip q base ram ≡ told_in (descriptor_in q l) (has_blocks (params_at q.bank q.regime (address_of q)).largegrain l.level) (Some desc)
+  told-word l desc e w = found-by q base l (begun q l e) ram desc w _ _ refl refl
 
-            by-bits : (v t : Bool) → valid desc ≡ v → leads (params_at q.bank q.regime (address_of q)) l desc ≡ t → (f.pa ≡ descriptor_in q l) × (f.bit ≤ 1)
-            by-bits true true ev et = low-bits _ f _ 0 h (valid-leads q base l begin ram desc w ev et) (omega arith)
-            by-bits true false ev et = low-bits _ f _ 1 h (valid-alone q base l begin ram desc w ev et) (omega arith)
-            by-bits false true ev et = low-bits _ f _ 0 h (invalid-leads q base l begin ram desc w ev et) (omega arith)
-            by-bits false false ev et = absurd (not-both _ f (invalid-alone q base l begin ram desc w ev et) h)
-
-  pub no-other : (f : FlippedBit) → first_flip q base ram ≡ Some f → (slice_get (descriptors q base ram) 0 ≡ Some f.pa) × (f.bit ≤ 1)
-  no-other f h = go (first_table q) refl
+  told : first_flip q base ram ≡ told_at q base ram (first_table q)
+  told = go (first_table q) refl
     where
-      go : (t : Option Lookup) → first_table q ≡ t → (slice_get (descriptors q base ram) 0 ≡ Some f.pa) × (f.bit ≤ 1)
-      go None e = absurd (not-both _ f (not-begun e).1 h)
-      go (Some l) e = let z = told l e f h in (fetched l e ∙ ap Some (sym z.0), z.1)
-
--- an access of another kind or for another view finds the same
-module _ (q : Question) (user : Bool) (kind : Kind) (base : ℕ) (ram : List ℕ) where
-  abbrev q' : Question
-  q' = record q { user = user; kind = kind }
-
-  pub any-access : first_flip q' base ram ≡ first_flip q base ram
-  unfolding first_table
-  any-access = go (first_table q) refl
-    where
-      go : (t : Option Lookup) → first_table q ≡ t → first_flip q' base ram ≡ first_flip q base ram
-      go None e = (not-begun q' base ram e).1 ∙ sym (not-begun q base ram e).1
+      go : (t : Option Lookup) → first_table q ≡ t → first_flip q base ram ≡ told_at q base ram t
+      go None e = (not-begun e).1
       go (Some l) e = by-word (word_at base ram 8 (descriptor_in q l)) refl
         where
-          by-word : (w : Option ℕ) → word_at base ram 8 (descriptor_in q l) ≡ w → first_flip q' base ram ≡ first_flip q base ram
-          by-word None w = outside q' base ram l e w ∙ sym (outside q base ram l e w)
-          by-word (Some desc) w = by-bits (valid desc) (leads (params_at q.bank q.regime (address_of q)) l desc) refl refl
-            where
-              by-bits : (v t : Bool) → valid desc ≡ v → leads (params_at q.bank q.regime (address_of q)) l desc ≡ t → first_flip q' base ram ≡ first_flip q base ram
-              by-bits true true ev et = valid-leads q' base l (begun q' l e) ram desc w ev et ∙ sym (valid-leads q base l (begun q l e) ram desc w ev et)
-              by-bits true false ev et = valid-alone q' base l (begun q' l e) ram desc w ev et ∙ sym (valid-alone q base l (begun q l e) ram desc w ev et)
-              by-bits false true ev et = invalid-leads q' base l (begun q' l e) ram desc w ev et ∙ sym (invalid-leads q base l (begun q l e) ram desc w ev et)
-              by-bits false false ev et = invalid-alone q' base l (begun q' l e) ram desc w ev et ∙ sym (invalid-alone q base l (begun q l e) ram desc w ev et)
+          by-word : (w : Option ℕ) → word_at base ram 8 (descriptor_in q l) ≡ w
+              → first_flip q base ram ≡ told_in (descriptor_in q l) (has_blocks (params_at q.bank q.regime (address_of q)).largegrain l.level) w
+          by-word None w = outside l e w
+          by-word (Some desc) w = told-word l desc e w
+
+  pub no-other : (f : FlippedBit) → first_flip q base ram ≡ Some f → (slice_get (descriptors q base ram) 0 ≡ Some f.pa) × (f.bit ≤ 1)
+  no-other f h = grind (arith, told, fetched)
+
+-- an access of another kind or for another view finds the same
+pub any-access : (q : Question) (user : Bool) (kind : Kind) (base : ℕ) (ram : List ℕ)
+    → first_flip (record q { user = user; kind = kind }) base ram ≡ first_flip q base ram
+unfolding first_table
+any-access q user kind base ram = told (record q { user = user; kind = kind }) base ram ∙ sym (told q base ram)
+
+-- BITS 1:0 of the word
+
+pub bits-11 : EachFirst (λ blocks desc bit_of found. bits desc 1 0 ≡ 3 → found ≡ Some (bit_of 0))
+bits-11 q base ram l desc e word h = grind (arith, told-word q base ram l desc e word)
+
+pub bits-10 : EachFirst (λ blocks desc bit_of found. bits desc 1 0 ≡ 2 → found ≡ Some (bit_of 0))
+bits-10 q base ram l desc e word h = grind (arith, told-word q base ram l desc e word)
+
+pub bits-01-block : EachFirst (λ blocks desc bit_of found. bits desc 1 0 ≡ 1 → blocks ≡ true → found ≡ Some (bit_of 0))
+bits-01-block q base ram l desc e word h k = grind (arith, told-word q base ram l desc e word)
+
+pub bits-01 : EachFirst (λ blocks desc bit_of found. bits desc 1 0 ≡ 1 → blocks ≡ false → found ≡ Some (bit_of 1))
+bits-01 q base ram l desc e word h k = grind (arith, told-word q base ram l desc e word)
+
+pub bits-00-block : EachFirst (λ blocks desc bit_of found. bits desc 1 0 ≡ 0 → blocks ≡ true → found ≡ Some (bit_of 0))
+bits-00-block q base ram l desc e word h k = grind (arith, told-word q base ram l desc e word)
+
+pub bits-00 : EachFirst (λ blocks desc bit_of found. bits desc 1 0 ≡ 0 → blocks ≡ false → found ≡ None)
+bits-00 q base ram l desc e word h k = grind (arith, told-word q base ram l desc e word)
 
 pub ruleset first_laws = (any-access, not-begun, fetched, outside, bits-11, bits-10, bits-01-block, bits-01, bits-00-block, bits-00, no-other)

@@ -1,8 +1,7 @@
 -- What is found, by conditions, both ways.
-use Rattle.std.specs.Prelude.{if◌then◌else◌, ◌≡◌, ◌≢◌, refl, ℕ, ◌+◌, ◌<◌, ◌≤◌, Bool, true, false, not, List, [], length, slice_get}
-use Rattle.std.specs.Prelude.{Some, None, find}
-use Rattle.std.proofs.Common.{inl, inr, sym, ap, subst, arith}
-use Rattle.std.proofs.lemmas.Bool.{not-false}
+use Rattle.std.specs.Prelude.{◌≡◌, ◌≢◌, refl, ℕ, ◌+◌, ◌<◌, ◌≤◌, Bool, true, false, not, List, length, Option, Some, None, slice_get, slice_index}
+use Rattle.std.proofs.Common.{inl, inr, sym, ap, ◌∙◌, arith}
+use Rattle.word.specs.Tables.{table}
 use Rattle.word.specs.Ram.{within, word_at}
 use Rattle.word.proofs.RamLaws.{within_low, within-high}
 use Rattle.walk.specs.Regime.{stage1_on}
@@ -11,23 +10,10 @@ use Rattle.walk.specs.Fetches.{fetches_of}
 use Rattle.tlb.specs.Answers.{Answer}
 use Rattle.flip.specs.Question.{answer_on, same_answer}
 use Rattle.flip.specs.Flip.{changes, number_of_bit, bits_of, find_map, first_in, first_flip}
-use Rattle.flip.specs.Found.{turned, IsBitOf, NoneBefore}
+use Rattle.flip.specs.Found.{turned, Earlier, IsBitOf, NoneBefore}
 use Rattle.flip.specs.declared.{FlippedBit.FlippedBit, Question.Question}
-use Rattle.flip.proofs.Frame.{same-is}
-use Rattle.flip.proofs.Search.{Hit, find-here, find-nowhere, find-some, find-none, First, map-first, first-map, map-none, none-map}
-
--- answers are the same just where they are equal
-same-equal : (a b : Answer) → not (same_answer a b) ≡ false → a ≡ b
-same-equal a b e = same-is a b (not-false _ e)
-
-not-same : (a b : Answer) → not (same_answer a b) ≡ true → a ≢ b
-not-same a b e h = grind arith
-
-is-same : (a b : Answer) → a ≡ b → not (same_answer a b) ≡ false
-is-same a b e = grind arith
-
-is-other : (a b : Answer) → a ≢ b → not (same_answer a b) ≡ true
-is-other a b e = grind arith
+use Rattle.flip.proofs.Frame.{same-is, none-anywhere}
+use Rattle.flip.proofs.Search.{find-none, found-passes, found-all, found-before, place, first-gives, first-stands, first-before}
 
 module _ (q : Question) (base : ℕ) (ram : List ℕ) where
   abbrev fetched : List ℕ
@@ -39,128 +25,93 @@ module _ (q : Question) (base : ℕ) (ram : List ℕ) where
   abbrev matters : FlippedBit → Bool
   matters f = changes q base ram (number_of_bit base f)
 
-  -- the lowest bit of a descriptor that lies in RAM
-  record InWord (d : ℕ) (f : FlippedBit) : Type 0 where
-    inside : within base (length ram) 8 d ≡ true
-    hit : Hit matters 64 (bit_of d) f
+  bits-are : (d : ℕ) → bits_of d ≡ table 64 (bit_of d)
+  bits-are d = refl
 
-  in-word : (d : ℕ) (f : FlippedBit) → first_in q base ram d ≡ Some f → InWord d f
+  in-word : (d : ℕ) (f : FlippedBit) → first_in q base ram d ≡ Some f
+      → (within base (length ram) 8 d ≡ true) × ((f.pa ≡ d) × ((f.bit < 64) × (matters f ≡ true)))
   unfolding first_in
-  in-word d f e = grind (arith, find-some matters 64 (bit_of d) f)
+  in-word d f e =
+      grind (
+        arith,
+        bits-are d,
+        found-passes matters 64 (bit_of d) f,
+        found-all matters (λ f. f.pa ≡ d) 64 (bit_of d) f (λ i l. refl),
+        found-all matters (λ f. f.bit < 64) 64 (bit_of d) f (λ i l. l),
+      )
 
-  none-in-word : (d : ℕ) → first_in q base ram d ≡ None → within base (length ram) 8 d ≡ true → (b : ℕ) → b < 64 → matters (bit_of d b) ≡ false
+  in-before : (d : ℕ) (f : FlippedBit) → first_in q base ram d ≡ Some f → (b : ℕ) → b < f.bit → matters (bit_of d b) ≡ false
   unfolding first_in
-  none-in-word d e w = find-none matters 64 (bit_of d) (rw w at e)
+  in-before d f e = grind (arith, bits-are d, found-before matters (λ f. f.bit) 64 0 (bit_of d) f (λ i. omega arith))
+
+  in-none : (d : ℕ) → first_in q base ram d ≡ None → within base (length ram) 8 d ≡ true → (b : ℕ) → b < 64 → matters (bit_of d b) ≡ false
+  unfolding first_in
+  in-none d e w = find-none matters 64 (bit_of d) (rw (w, bits-are d) at e)
 
   is-on : (f : FlippedBit) → first_flip q base ram ≡ Some f → (stage1_on q.bank q.regime ≡ true) × (find_map (first_in q base ram) fetched ≡ Some f)
   unfolding first_flip
   is-on f e = grind arith
 
-  lies-inside : {n : ℕ} {g : FlippedBit} → IsBitOf q base ram n g → within base (length ram) 8 g.pa ≡ true
-  lies-inside {n} {g} b = let lo : base ≤ g.pa = b.begins in let hi : g.pa + 8 ≤ base + length ram = b.ends in grind arith
+  lies-inside : (n : ℕ) (g : FlippedBit) → IsBitOf q base ram n g → within base (length ram) 8 g.pa ≡ true
+  lies-inside n g b = let lo : base ≤ g.pa = b.begins in let hi : g.pa + 8 ≤ base + length ram = b.ends in grind arith
 
-  same-place : (ds : List ℕ) (n d e : ℕ) → slice_get ds n ≡ Some d → slice_get ds n ≡ Some e → d ≡ e
-  same-place ds n d e a b = cc
+  same-equal : (a b : Answer) → not (same_answer a b) ≡ false → a ≡ b
+  same-equal a b e = grind (arith, same-is)
 
-  -- what is found in the list of descriptors, in terms of conditions
-  module _ (f : FlippedBit) (on : stage1_on q.bank q.regime ≡ true) (r : First (first_in q base ram) fetched f) (w : InWord r.from f) where
-    place-found : IsBitOf q base ram r.at f
+  same-place : (n m d e : ℕ) → m ≡ n → slice_get fetched n ≡ Some d → slice_get fetched m ≡ Some e → d ≡ e
+  same-place n m d e z a b = cc
+
+  module _ (f : FlippedBit) (e : first_flip q base ram ≡ Some f) where
+    abbrev number : ℕ
+    number = place (first_in q base ram) fetched
+
+    found-in : first_in q base ram (slice_index fetched number) ≡ Some f
+    found-in = first-gives (first_in q base ram) fetched f (is-on f e).1
+
+    pub found-changes : turned q base ram f ≢ answer_on q base ram
+    found-changes h = let w = in-word (slice_index fetched number) f found-in in grind arith
+
+    place-found : IsBitOf q base ram number f
     place-found =
-        let d : f.pa ≡ r.from = ap (λ (g : FlippedBit). g.pa) w.hit.is in
-        let b : f.bit ≡ w.hit.at = ap (λ (g : FlippedBit). g.bit) w.hit.is in
+        let w = in-word (slice_index fetched number) f found-in in
+        let s = first-stands (first_in q base ram) fetched f (is-on f e).1 in
         record {
-          on = on;
-          fetched = rw d r.stands;
-          begins = rw d (within_low base (length ram) 8 r.from w.inside);
-          ends = rw d (within-high base (length ram) 8 r.from w.inside);
-          bit = rw b w.hit.within;
+          on = (is-on f e).0;
+          fetched = s ∙ ap Some (sym w.1.0);
+          begins = grind (arith, within_low);
+          ends = grind (arith, within-high);
+          bit = w.1.1.0;
         }
 
-    change-found : turned q base ram f ≢ answer_on q base ram
-    change-found = not-same _ _ (subst (λ (g : FlippedBit). matters g ≡ true) (sym w.hit.is) w.hit.passes)
-
-    before-found : NoneBefore q base ram r.at f
+    before-found : NoneBefore q base ram number f
     before-found m g b (inl l) =
-        same-equal _ _ (none-in-word g.pa (r.before m g.pa l b.fetched) (lies-inside b) g.bit b.bit)
+        same-equal _ _ (in-none g.pa (first-before (first_in q base ram) fetched m g.pa l b.fetched) (lies-inside m g b) g.bit b.bit)
     before-found m g b (inr p) =
-        let d : f.pa ≡ r.from = ap (λ (h : FlippedBit). h.pa) w.hit.is in
-        let k : f.bit ≡ w.hit.at = ap (λ (h : FlippedBit). h.bit) w.hit.is in
-        let same : g.pa ≡ r.from = same-place fetched m g.pa r.from b.fetched (rw (p.0) r.stands) in
-        let none : matters (bit_of r.from g.bit) ≡ false = w.hit.before g.bit (omega arith) in
-        same-equal _ _ (rw (← same) at none)
+        let w = in-word (slice_index fetched number) f found-in in
+        let d = same-place number m f.pa g.pa p.0 place-found.fetched b.fetched in
+        same-equal _ _ (rw (← w.1.0, d) at (in-before (slice_index fetched number) f found-in g.bit p.1))
 
-  pub found-bit : (f : FlippedBit) → first_flip q base ram ≡ Some f
-      → (n : ℕ) × (IsBitOf q base ram n f × ((turned q base ram f ≢ answer_on q base ram) × NoneBefore q base ram n f))
-  found-bit f e =
-      let o = is-on f e in
-      let r = map-first (first_in q base ram) fetched f o.1 in
-      let w = in-word r.from f r.gives in
-      (r.at, (place-found f o.0 r w, (change-found f o.0 r w, before-found f o.0 r w)))
+  pub found-none : first_flip q base ram ≡ None → (n : ℕ) (f : FlippedBit) → IsBitOf q base ram n f → turned q base ram f ≡ answer_on q base ram
+  found-none e n f b = none-anywhere q base ram e (number_of_bit base f)
+
+  pub found-first : (f : FlippedBit) → first_flip q base ram ≡ Some f → (n : ℕ) × (IsBitOf q base ram n f × NoneBefore q base ram n f)
+  found-first f e = (number f e, (place-found f e, before-found f e))
+
+  pub none-found : ((n : ℕ) (f : FlippedBit) → IsBitOf q base ram n f → turned q base ram f ≡ answer_on q base ram) → first_flip q base ram ≡ None
+  none-found h = go (first_flip q base ram) refl
+    where
+      go : (x : Option FlippedBit) → first_flip q base ram ≡ x → first_flip q base ram ≡ None
+      go None e = e
+      go (Some f) e = absurd (found-changes f e (h (number f e) f (place-found f e)))
 
   pub bit-found : (n : ℕ) (f : FlippedBit) → IsBitOf q base ram n f → turned q base ram f ≢ answer_on q base ram → NoneBefore q base ram n f
       → first_flip q base ram ≡ Some f
-  unfolding first_flip first_in
-  bit-found n f b c none = rw (b.on) (first-map (first_in q base ram) fetched f n f.pa b.fetched here before)
+  bit-found n f b c none = go (first_flip q base ram) refl
     where
-      here : first_in q base ram f.pa ≡ Some f
-      here =
-          rw (lies-inside b)
-          (find-here matters 64 (bit_of f.pa) f.bit b.bit (λ i l. is-same _ _ (none n (bit_of f.pa i) (moved i l) (inr (refl, l)))) (is-other _ _ c))
-        where
-          moved : (i : ℕ) → i < f.bit → IsBitOf q base ram n (bit_of f.pa i)
-          moved i l = record { on = b.on; fetched = b.fetched; begins = b.begins; ends = b.ends; bit = omega (arith, b.bit) }
-
-      before : (k d : ℕ) → k < n → slice_get fetched k ≡ Some d → first_in q base ram d ≡ None
-      before k d l s = go (within base (length ram) 8 d) refl
-        where
-          go : (x : Bool) → within base (length ram) 8 d ≡ x → (if x then find matters (bits_of d) else None) ≡ None
-          go true w = find-nowhere matters 64 (bit_of d) (λ i m. is-same _ _ (none k (bit_of d i) (lies i m) (inl l)))
-            where
-              lies : (i : ℕ) → i < 64 → IsBitOf q base ram k (bit_of d i)
-              lies i m =
-                  record {
-                    on = b.on;
-                    fetched = s;
-                    begins = within_low base (length ram) 8 d w;
-                    ends = within-high base (length ram) 8 d w;
-                    bit = m;
-                  }
-          go false w = refl
-
-  pub none-found : ((n : ℕ) (f : FlippedBit) → IsBitOf q base ram n f → turned q base ram f ≡ answer_on q base ram) → first_flip q base ram ≡ None
-  unfolding first_flip first_in
-  none-found h = go (stage1_on q.bank q.regime) refl
-    where
-      go : (x : Bool) → stage1_on q.bank q.regime ≡ x → find_map (first_in q base ram) (if x then fetched else []) ≡ None
-      go false o = refl
-      go true o = none-map (first_in q base ram) fetched (λ k d s. went k d s (within base (length ram) 8 d) refl)
-        where
-          went : (k d : ℕ) → slice_get fetched k ≡ Some d → (x : Bool) → within base (length ram) 8 d ≡ x → (if x then find matters (bits_of d) else None) ≡ None
-          went k d s false w = refl
-          went k d s true w = find-nowhere matters 64 (bit_of d) (λ i m. is-same _ _ (h k (bit_of d i) (lies i m)))
-            where
-              lies : (i : ℕ) → i < 64 → IsBitOf q base ram k (bit_of d i)
-              lies i m =
-                  record {
-                    on = o;
-                    fetched = s;
-                    begins = within_low base (length ram) 8 d w;
-                    ends = within-high base (length ram) 8 d w;
-                    bit = m;
-                  }
-
-  pub found-none : first_flip q base ram ≡ None → (n : ℕ) (f : FlippedBit) → IsBitOf q base ram n f → turned q base ram f ≡ answer_on q base ram
-  unfolding first_flip
-  found-none e n f b =
-      let all : find_map (first_in q base ram) fetched ≡ None = rw (b.on) at e in
-      same-equal _ _ (none-in-word f.pa (map-none (first_in q base ram) fetched all n f.pa b.fetched) (lies-inside b) f.bit b.bit)
-
--- THE CLAUSES
-
-pub found-changes : (q : Question) (base : ℕ) (ram : List ℕ) (f : FlippedBit) → first_flip q base ram ≡ Some f
-    → turned q base ram f ≢ answer_on q base ram
-found-changes q base ram f e = (found-bit q base ram f e).1.1.0
-
-pub found-first : (q : Question) (base : ℕ) (ram : List ℕ) (f : FlippedBit) → first_flip q base ram ≡ Some f
-    → (n : ℕ) × (IsBitOf q base ram n f × NoneBefore q base ram n f)
-found-first q base ram f e = let r = found-bit q base ram f e in (r.0, (r.1.0, r.1.1.1))
+      go : (x : Option FlippedBit) → first_flip q base ram ≡ x → first_flip q base ram ≡ Some f
+      go None e = absurd (c (found-none e n f b))
+      go (Some g) e =
+          let not-later : Earlier (number g e) g n f → ⊥ = λ l. found-changes g e (none (number g e) g (place-found g e) l) in
+          let not-sooner : Earlier n f (number g e) g → ⊥ = λ l. c (before-found g e n f b l) in
+          let same = same-place n (number g e) f.pa g.pa in
+          grind (arith, not-later, not-sooner, same, b.fetched, (place-found g e).fetched)

@@ -1,16 +1,13 @@
 -- A flipped bit that no descriptor of the walk has changes no answer; so where nothing is found, no bit of RAM changes it.
-use Rattle.std.specs.Prelude.{◌≡◌, ◌≢◌, Bool, List, [], ◌∷◌, length, Option, None, Ok, Err, slice_index}
+use Rattle.std.specs.Prelude.{◌≡◌, ◌≢◌, Bool, List, [], ◌∷◌, length, Option, None}
 use Rattle.std.specs.List.{All}
-use Rattle.std.specs.Option.{option_or}
 use Rattle.std.proofs.lemmas.Bool.{not-false, le-leb}
 use Rattle.std.proofs.lemmas.List.Elements.{All-head, All-tail}
-use Rattle.std.proofs.Common.{subst, refl, sym, ap, ◌∙◌, arith, eqb-true}
+use Rattle.std.proofs.Common.{subst, refl, sym, arith, eqb-true}
 use Rattle.std.proofs.Math.Bool.{true, false}
-use Rattle.std.proofs.lemmas.List.{length-set, get_or-set_other}
 use Prim.Native.Nat.{ℕ, ◌+◌, ◌-◌, ◌*◌, ◌/◌, ◌<◌, ◌≤◌}
 use mathlib.Core.List.{Memᴰ}
 use Rattle.word.specs.Ram.{within, word_at}
-use Rattle.fault.specs.First.{first}
 use Rattle.walk.specs.Regime.{stage1_on}
 use Rattle.walk.specs.Tag.{untagged}
 use Rattle.walk.specs.Walk.{walk_of}
@@ -23,16 +20,8 @@ use Rattle.flip.specs.Question.{answer_on, same_answer}
 use Rattle.flip.specs.Flip.{flipped, number_of_bit, find_map, changes, descriptors, first_in, first_flip}
 use Rattle.flip.specs.Laws.{IsOutside}
 use Rattle.flip.specs.declared.{Question.Question}
+use Rattle.flip.proofs.Flipping.{length-flipped, other-byte}
 use Rattle.flip.proofs.Search.{find-none}
-
-pub length-flipped : (ram : List ℕ) (n : ℕ) → length (flipped ram n) ≡ length ram
-unfolding flipped
-length-flipped ram n = length-set ram _ _
-
--- every other byte is as it was
-pub other-byte : (ram : List ℕ) (n i : ℕ) → i ≢ n / 8 → slice_index (flipped ram n) i ≡ slice_index ram i
-unfolding flipped
-other-byte ram n i h = get_or-set_other ram (n / 8) i _ 0 h
 
 -- a fact of all is one of each member
 pub all-mem : {A : Type 0} (P : A → Type 0) (ds : List A) → All P ds → (d : A) → Memᴰ d ds → P d
@@ -46,26 +35,21 @@ module _ (q : Question) (base n : ℕ) (ram : List ℕ) where
   abbrev address : ℕ
   address = untagged q.bank.tcr q.regime q.va
 
-  not-of : {d : ℕ} → IsOutside base ram n d → base ≤ d → d + 8 ≤ base + length ram → (i : ℕ) → i < 8 → d - base + i ≢ n / 8
-  not-of {d} h low high i k = grind (arith, le-leb)
+  not-of : (d : ℕ) → IsOutside base ram n d → base ≤ d → d + 8 ≤ base + length ram → (i : ℕ) → i < 8 → d - base + i ≢ n / 8
+  not-of d h low high i k = grind (arith, le-leb)
 
   walk-same : ((d : ℕ) → Memᴰ d (fetches_of q.bank q.regime address (word_at base ram 8)) → IsOutside base ram n d)
       → walk_of q.bank q.regime address (word_at base ram 8) ≡ walk_of q.bank q.regime address (word_at base (flipped ram n) 8)
   walk-same h =
       bytes-agree q.bank q.regime address base ram (flipped ram n) (sym (length-flipped ram n))
-      (λ a m low high i k. sym (other-byte ram n (a - base + i) (not-of (h a m) low high i k)))
-
-  answer-same : walk_of q.bank q.regime address (word_at base ram 8) ≡ walk_of q.bank q.regime address (word_at base (flipped ram n) 8)
-      → answer_on q base (flipped ram n) ≡ answer_on q base ram
-  unfolding fresh_answer fresh_of
-  answer-same e = rw e refl
+      (λ a m low high i k. sym (other-byte ram n (a - base + i) (not-of a (h a m) low high i k)))
 
   pub outside-all : ((d : ℕ) → Memᴰ d (descriptors q base ram) → IsOutside base ram n d) → answer_on q base (flipped ram n) ≡ answer_on q base ram
   unfolding fresh_answer fresh_of
   outside-all h = go (stage1_on q.bank q.regime) refl
     where
       go : (on : Bool) → stage1_on q.bank q.regime ≡ on → answer_on q base (flipped ram n) ≡ answer_on q base ram
-      go true e = answer-same (walk-same (rw e at h))
+      go true e = rw (walk-same (rw e at h)) refl
       go false e = rw e refl
 
 pub elsewhere : (q : Question) (base : ℕ) (ram : List ℕ) (n : ℕ) → All (IsOutside base ram n) (descriptors q base ram)
@@ -75,18 +59,12 @@ elsewhere q base ram n h = outside-all q base n ram (all-mem (IsOutside base ram
 -- NONE ANYWHERE
 
 pub same-is : (a b : Answer) → same_answer a b ≡ true → a ≡ b
-same-is (Ok a) (Ok b) e = ap Ok (eqb-true a b e)
-same-is (Err f) (Err g) e = ap (λ (n : ℕ). Err (first n)) (eqb-true f.fsc g.fsc e)
-same-is (Ok a) (Err g) e = grind arith
-same-is (Err f) (Ok b) e = grind arith
-
-none-first : {A : Type 0} (x y : Option A) → option_or x y ≡ None → (x ≡ None) × (y ≡ None)
-none-first x y e = grind arith
+same-is a b e = grind (arith, eqb-true)
 
 none-each : {A B : Type 0} (f : A → Option B) (ds : List A) → find_map f ds ≡ None → (d : A) → Memᴰ d ds → f d ≡ None
 none-each f [] e d m = elim m [ ]
-none-each f (x ∷ ds) e d (Memᴰ.head r) = ap f r ∙ (none-first (f x) (find_map f ds) e).0
-none-each f (x ∷ ds) e d (Memᴰ.tail m) = none-each f ds (none-first (f x) (find_map f ds) e).1 d m
+none-each f (x ∷ ds) e d (Memᴰ.head r) = grind (arith, r)
+none-each f (x ∷ ds) e d (Memᴰ.tail m) = none-each f ds (grind arith) d m
 
 module _ (q : Question) (base : ℕ) (ram : List ℕ) (none : first_flip q base ram ≡ None) (n : ℕ) where
   -- were it one of such a descriptor, it would be found
@@ -100,8 +78,8 @@ module _ (q : Question) (base : ℕ) (ram : List ℕ) (none : first_flip q base 
   each-outside : changes q base ram n ≡ true → (d : ℕ) → Memᴰ d (descriptors q base ram) → IsOutside base ram n d
   unfolding first_flip
   each-outside e d m w =
-      let f : first_in q base ram d ≡ None = none-each (first_in q base ram) (descriptors q base ram) none d m in
-      let off : 8 * (d - base) ≤ n → n < 8 * (d - base) + 64 → true ≡ false = λ low high. sym e ∙ bit-of d low high w f in
+      let off = λ (low : 8 * (d - base) ≤ n) (high : n < 8 * (d - base) + 64).
+      bit-of d low high w (none-each (first_in q base ram) (descriptors q base ram) none d m) in
       grind (arith, off)
 
   pub none-anywhere : answer_on q base (flipped ram n) ≡ answer_on q base ram

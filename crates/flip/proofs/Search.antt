@@ -1,7 +1,9 @@
 -- The first of a row of things that passes a test, and the first that a list's members give.
-use Rattle.std.specs.Prelude.{if◌then◌else◌, ◌≡◌, refl, ℕ, zero, suc, ◌<◌, Bool, true, false, List, [], ◌∷◌, Option, Some, None, find, slice_get}
-use Rattle.std.specs.Option.{option_or}
-use Rattle.std.proofs.Common.{sym, ◌∙◌, arith, not-suc-le-zero}
+use Rattle.std.specs.Prelude.{◌≡◌, refl, ℕ, zero, suc, ◌+◌, ◌<◌, Bool, true, false, List, [], ◌∷◌, Option, Some, None, find, is_some, slice_get, slice_index}
+use Rattle.std.specs.List.{position_or_len}
+use Rattle.std.proofs.Common.{arith}
+use Rattle.std.proofs.lemmas.List.Sums.{fails_before_first}
+use Rattle.std.proofs.lemmas.Option.{get_or_from_slice_get}
 use Rattle.word.specs.Tables.{table}
 use Rattle.flip.specs.Flip.{find_map}
 
@@ -9,95 +11,54 @@ module _ {A : Type 0} (p : A → Bool) where
   -- none before it passes, and it does
   pub find-here : (n : ℕ) (g : ℕ → A) (k : ℕ) → k < n → ((i : ℕ) → i < k → p (g i) ≡ false) → p (g k) ≡ true → find p (table n g) ≡ Some (g k)
   unfolding table
-  find-here zero g k l b h = absurd (not-suc-le-zero l)
-  find-here (suc n) g zero l b h = rw h refl
-  find-here (suc n) g (suc k) l b h = rw (b 0 (omega arith)) (find-here n (λ i. g (suc i)) k (omega arith) (λ i m. b (suc i) (omega arith)) h)
+  find-here zero g k l b h = absurd (omega arith)
+  find-here (suc n) g zero l b h = grind arith
+  find-here (suc n) g (suc k) l b h = grind (arith, b 0, find-here n (λ i. g (suc i)) k (omega arith) (λ i m. b (suc i) (omega arith)) h)
 
   -- none passes
   pub find-nowhere : (n : ℕ) (g : ℕ → A) → ((i : ℕ) → i < n → p (g i) ≡ false) → find p (table n g) ≡ None
   unfolding table
   find-nowhere zero g b = refl
-  find-nowhere (suc n) g b = rw (b 0 (omega arith)) (find-nowhere n (λ i. g (suc i)) (λ i m. b (suc i) (omega arith)))
-
-  -- what is found: none before it passes
-  pub record Hit (n : ℕ) (g : ℕ → A) (x : A) : Type 0 where
-    pub at : ℕ
-    pub within : at < n
-    pub is : x ≡ g at
-    pub passes : p (g at) ≡ true
-    pub before : (i : ℕ) → i < at → p (g i) ≡ false
-
-  pub find-some : (n : ℕ) (g : ℕ → A) (x : A) → find p (table n g) ≡ Some x → Hit n g x
-  unfolding table
-  find-some zero g x e = cc
-  find-some (suc n) g x e = go (p (g 0)) refl e (find-some n (λ i. g (suc i)) x)
-    where
-      go : (b : Bool) → p (g 0) ≡ b → (if b then Some (g 0) else find p (table n (λ i. g (suc i)))) ≡ Some x
-          → (find p (table n (λ i. g (suc i))) ≡ Some x → Hit n (λ i. g (suc i)) x) → Hit (suc n) g x
-      go true q h ih = record { at = 0; within = omega arith; is = cc; passes = q; before = λ i l. absurd (omega arith) }
-      go false q h ih =
-          let k = ih h in
-          record { at = suc k.at; within = omega (arith, k.within); is = k.is; passes = k.passes; before = λ i l. first_of i k l }
-        where
-          first_of : (i : ℕ) → (k : Hit n (λ i. g (suc i)) x) → i < suc k.at → p (g i) ≡ false
-          first_of zero k l = q
-          first_of (suc i) k l = k.before i (omega arith)
+  find-nowhere (suc n) g b = grind (arith, b 0, find-nowhere n (λ i. g (suc i)) (λ i m. b (suc i) (omega arith)))
 
   pub find-none : (n : ℕ) (g : ℕ → A) → find p (table n g) ≡ None → (i : ℕ) → i < n → p (g i) ≡ false
   unfolding table
   find-none zero g e i l = absurd (omega arith)
-  find-none (suc n) g e i l = go (p (g 0)) refl e i l (find-none n (λ i. g (suc i)))
-    where
-      go : (b : Bool) → p (g 0) ≡ b → (if b then Some (g 0) else find p (table n (λ i. g (suc i)))) ≡ None → (i : ℕ) → i < suc n
-          → (find p (table n (λ i. g (suc i))) ≡ None → (i : ℕ) → i < n → p (g (suc i)) ≡ false) → p (g i) ≡ false
-      go true q h i l ih = cc
-      go false q h zero l ih = q
-      go false q h (suc i) l ih = ih h i (omega arith)
+  find-none (suc n) g e zero l = grind arith
+  find-none (suc n) g e (suc i) l = grind (arith, find-none n (λ i. g (suc i)))
+
+  -- what is found passes, is one of them, and none before it passes
+  pub found-passes : (n : ℕ) (g : ℕ → A) (x : A) → find p (table n g) ≡ Some x → p x ≡ true
+  unfolding table
+  found-passes zero g x e = cc
+  found-passes (suc n) g x e = grind (arith, found-passes n (λ i. g (suc i)) x)
+
+  pub found-all : (P : A → Type 0) (n : ℕ) (g : ℕ → A) (x : A) → ((i : ℕ) → i < n → P (g i)) → find p (table n g) ≡ Some x → P x
+  unfolding table
+  found-all P zero g x h e = cc
+  found-all P (suc n) g x h e = grind (arith, h 0, found-all P n (λ i. g (suc i)) x (λ i l. h (suc i) (omega arith)))
+
+  pub found-before : (place : A → ℕ) (n o : ℕ) (g : ℕ → A) (x : A) → ((i : ℕ) → place (g i) ≡ o + i) → find p (table n g) ≡ Some x
+      → (i : ℕ) → o + i < place x → p (g i) ≡ false
+  unfolding table
+  found-before place zero o g x k e i l = cc
+  found-before place (suc n) o g x k e zero l = grind (arith, k 0)
+  found-before place (suc n) o g x k e (suc i) l = grind (arith, k 0, found-before place n (suc o) (λ i. g (suc i)) x (λ i. omega (arith, k (suc i))))
 
 -- THE FIRST THAT A LIST'S MEMBERS GIVE
 
-module _ {A B : Type 0} (f : A → Option B) where
-  at-head : (x z : A) (r : Option B) → Some x ≡ Some z → f x ≡ r → f z ≡ r
-  at-head x z r e h = cc
+module _ {B : Type 0} (f : ℕ → Option B) where
+  -- its place
+  abbrev pub place : List ℕ → ℕ
+  place xs = position_or_len (λ x. is_some (f x)) xs
 
-  pub record First (xs : List A) (y : B) : Type 0 where
-    pub at : ℕ
-    pub from : A
-    pub stands : slice_get xs at ≡ Some from
-    pub gives : f from ≡ Some y
-    pub before : (k : ℕ) (z : A) → k < at → slice_get xs k ≡ Some z → f z ≡ None
+  pub first-gives : (xs : List ℕ) (y : B) → find_map f xs ≡ Some y → f (slice_index xs (place xs)) ≡ Some y
+  first-gives [] y e = cc
+  first-gives (x ∷ xs) y e = grind (arith, first-gives xs)
 
-  pub map-first : (xs : List A) (y : B) → find_map f xs ≡ Some y → First xs y
-  map-first [] y e = cc
-  map-first (x ∷ xs) y e = go (f x) refl e (map-first xs y)
-    where
-      go : (o : Option B) → f x ≡ o → option_or o (find_map f xs) ≡ Some y → (find_map f xs ≡ Some y → First xs y) → First (x ∷ xs) y
-      go (Some a) q h ih = record { at = 0; from = x; stands = refl; gives = q ∙ h; before = λ k z l. absurd (omega arith) }
-      go None q h ih =
-          let r = ih h in
-          record { at = suc r.at; from = r.from; stands = r.stands; gives = r.gives; before = λ k z l w. none_before r k z l w }
-        where
-          none_before : (r : First xs y) (k : ℕ) (z : A) → k < suc r.at → slice_get (x ∷ xs) k ≡ Some z → f z ≡ None
-          none_before r zero z l w = at-head x z None w q
-          none_before r (suc k) z l w = r.before k z (omega arith) w
+  pub first-stands : (xs : List ℕ) (y : B) → find_map f xs ≡ Some y → slice_get xs (place xs) ≡ Some (slice_index xs (place xs))
+  first-stands [] y e = cc
+  first-stands (x ∷ xs) y e = grind (arith, first-stands xs)
 
-  pub first-map : (xs : List A) (y : B) (n : ℕ) (x : A) → slice_get xs n ≡ Some x → f x ≡ Some y
-      → ((k : ℕ) (z : A) → k < n → slice_get xs k ≡ Some z → f z ≡ None) → find_map f xs ≡ Some y
-  first-map [] y n x s g b = cc
-  first-map (w ∷ xs) y zero x s g b = rw (at-head x w (Some y) (sym s) g) refl
-  first-map (w ∷ xs) y (suc n) x s g b =
-      rw (b 0 w (omega arith) refl) (first-map xs y n x s g (λ k z l e. b (suc k) z (omega arith) e))
-
-  pub map-none : (xs : List A) → find_map f xs ≡ None → (k : ℕ) (z : A) → slice_get xs k ≡ Some z → f z ≡ None
-  map-none [] e k z s = cc
-  map-none (x ∷ xs) e k z s = go (f x) refl e k s (map-none xs)
-    where
-      go : (o : Option B) → f x ≡ o → option_or o (find_map f xs) ≡ None → (k : ℕ) → slice_get (x ∷ xs) k ≡ Some z
-          → (find_map f xs ≡ None → (k : ℕ) (z : A) → slice_get xs k ≡ Some z → f z ≡ None) → f z ≡ None
-      go (Some a) q h k s ih = cc
-      go None q h zero s ih = at-head x z None s q
-      go None q h (suc k) s ih = ih h k z s
-
-  pub none-map : (xs : List A) → ((k : ℕ) (z : A) → slice_get xs k ≡ Some z → f z ≡ None) → find_map f xs ≡ None
-  none-map [] b = refl
-  none-map (x ∷ xs) b = rw (b 0 x refl) (none-map xs (λ k z s. b (suc k) z s))
+  pub first-before : (xs : List ℕ) (k z : ℕ) → k < place xs → slice_get xs k ≡ Some z → f z ≡ None
+  first-before xs k z l s = grind (arith, get_or_from_slice_get xs k z 0 s, fails_before_first (λ x. is_some (f x)) xs k 0 l)

@@ -24,7 +24,7 @@ first_table q =
 abbrev pub descriptor_in : Question → Lookup → ℕ
 descriptor_in q l = descaddr (params_at q.bank q.regime (address_of q)) (address_of q) l
 
--- whether a block may stand at a level: above level 3, and not before the first level that has them
+-- whether a block may stand at a level: at a level before 3, and not before the first that has them
 abbrev pub has_blocks : Bool → ℕ → Bool
 has_blocks largegrain level = nat_le (firstblocklevel largegrain) level && nat_lt level 3
 

@@ -55,8 +55,8 @@ pub fn elsewhere()
 
 // With stage 1 alone what is found is bit 0 or bit 1 of the first descriptor fetched, or nothing: bits 1:0 of its word
 // tell which, and whether a block may stand at its level; so kind and view count for nothing there. Nothing is found
-// where none is fetched, or where it does not lie wholly in RAM. It rules out a report from a deeper table, and one of a
-// higher bit.
+// where none is fetched, or where it does not lie wholly in RAM. It rules out a report from a deeper table, and one of
+// a higher bit.
 #[tactic(auto, using(crate::proofs::FirstDescriptor::first_laws))]
 pub fn first_descriptor()
     ensures no_other { EachQuestion (λ q base ram. (f : FlippedBit) → first_flip q base ram ≡ Some f
@@ -94,17 +94,18 @@ pub fn flips()
     ensures turned { (ram : List ℕ) (n : ℕ) → n < 8 * length ram → ram_bit (flipped ram n) n ≡ not (ram_bit ram n) }
     ensures kept { (ram : List ℕ) (n i : ℕ) → i ≢ n → ram_bit (flipped ram n) i ≡ ram_bit ram i }
     ensures twice { (ram : List ℕ) (n : ℕ) → flipped (flipped ram n) n ≡ ram }
-    ensures placed { (base : ℕ) (ram : List ℕ) (f : FlippedBit) → f.bit < 64 → base ≤ f.pa → f.pa + 8 ≤ base + length ram
-        → with_bit base ram f ≡ flipped ram (8 * (f.pa - base) + f.bit) }
+    ensures placed { (base : ℕ) (ram : List ℕ) (f : FlippedBit) → f.bit < 64 → base ≤ f.pa
+        → f.pa + 8 ≤ base + length ram → with_bit base ram f ≡ flipped ram (8 * (f.pa - base) + f.bit) }
     ensures word_turned { EachWord (λ bit word after. bit_on after bit ≡ not (bit_on word bit)) }
-    ensures word_kept { EachWord (λ bit word after. (i : ℕ) → i < 64 → i ≢ bit → bit_on after i ≡ bit_on word i) }
+    ensures word_kept { EachWord (λ bit word after. (i : ℕ) → i < 64 → i ≢ bit
+        → bit_on after i ≡ bit_on word i) }
     ensures nothing { (base : ℕ) (ram : List ℕ) (f : FlippedBit) → IsNone base ram f → with_bit base ram f ≡ ram }
 {}
 
-// At each level a question is of the registers of that level's own regime, EL0's of EL1's. At EL0 and EL1 its view is the
-// call's, whatever the level; at EL2 and EL3 there is one. A call tells the first flip of its question; before it a level
-// that there is not, and then a window of RAM that passes 2^64. Where stage 1 is off nothing is found. It rules out, in
-// code and definition alike, another level's registers, and two views at EL2.
+// At each level a question is of the registers of that level's own regime, EL0's of EL1's. At EL0 and EL1 its view is
+// the call's, whatever the level; at EL2 and EL3 there is one. A call tells the first flip of its question; before it a
+// level that there is not, and then a window of RAM that passes 2^64. Where stage 1 is off nothing is found. It rules
+// out, in code and definition alike, another level's registers, and two views at EL2.
 pub fn views()
     ensures at_el0 { EachView (λ asks by. (user : Bool) → asks 0 user ≡ by 1 El1 user) }
     ensures at_el1 { EachView (λ asks by. (user : Bool) → asks 1 user ≡ by 1 El1 user) }

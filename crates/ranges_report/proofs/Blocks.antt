@@ -1,22 +1,19 @@
 -- A walk that ends at a level ends alike for all addresses of its block there: those with the same bits from the lowest that a table of the level
 -- looks at.
-use Rattle.std.specs.Prelude.{if◌then◌else◌, ◌≡◌, refl, Bool, true, false, not, ◌&&◌, ◌||◌, eqb, ltb, Option, Some, None, Ok, Err}
+use Rattle.std.specs.Prelude.{◌≡◌, refl, Bool, true, false, Option, None}
 use Rattle.std.specs.Prelude.{ℕ, zero, suc, ◌+◌, ◌-◌, ◌*◌, ◌/◌, ◌%◌, ◌^◌, ◌≤◌}
-use Rattle.std.proofs.Common.{sym, ap, ◌∙◌, subst, arith}
+use Rattle.std.proofs.Common.{sym, ap, ◌∙◌, arith}
 use Rattle.std.proofs.Math.Pow.{split}
-use Rattle.word.specs.Bits.{align_down}
 use Rattle.word.proofs.BitLaws.{same_above}
 use Rattle.walk.specs.Regime.{wxn_of}
 use Rattle.sysreg.specs.Regs.{single_priv}
-use Rattle.walk.specs.Descriptor.{valid, table_or_page, af}
 use Rattle.walk.specs.Table.{Fault, address_size, translation, access_flag, external_abort, Result, mapped, faults}
-use Rattle.walk.specs.Table.{in_range, startlevel, addrselectbottom, beyond, firstblocklevel, Lookup, Next, deeper, ends, first_lookup, range_of, params_of}
-use Rattle.walk.specs.Table.{table_next, leaf_translation, leaf_result, level_next, descaddr, on_word, lookup_next, on_next, walk_from, walk_range, table_walk}
+use Rattle.walk.specs.Table.{in_range, startlevel, addrselectbottom, Lookup, Next, deeper, ends, first_lookup, range_of, params_of}
+use Rattle.walk.specs.Table.{table_next, leaf_translation, leaf_result, level_next, descaddr, lookup_next, walk_from, walk_range, table_walk}
 use Rattle.walk.specs.Walk.{walked_of, walk_of}
-use Rattle.walk.specs.WalkBounds.{Sound, SoundWalked}
+use Rattle.walk.specs.WalkBounds.{Sound}
 use Rattle.walk.proofs.SizeLaws.{start-level, pa-size-low, pa-size-high}
 use Rattle.walk.proofs.WalkBounds.{next_level, table-walk-sound, walk-sound}
-use Rattle.walk.specs.Answers.{Walked}
 use Rattle.walk.specs.declared.{regime.Bank.Bank, range.Range.Range, level.Params.Params}
 use Rattle.sysreg.specs.declared.regs.Regime.{Regime}
 use Rattle.sysreg.specs.declared.regs.Regime.TheVariants.{El1, El2, El3}
@@ -62,42 +59,19 @@ EndsAt n (ends r) = result-level r ≡ n
 module _ (p : Params) (va : ℕ) (l : Lookup) where
   leaf-ends : (desc : ℕ) → result-level (leaf_result p va l desc) ≡ l.level
   unfolding leaf_result leaf_translation
-  leaf-ends desc = go (ltb l.level (firstblocklevel p.largegrain)) (beyond p.outputsize desc) (af desc)
-    where
-      go : (a b c : Bool) → result-level
-          (if a then faults (translation l.level)
-          else if b then faults (address_size l.level)
-          else if c then mapped (leaf_translation p va l desc) else faults (access_flag l.level)) ≡ l.level
-      go true b c = refl
-      go false true c = refl
-      go false false true = refl
-      go false false false = refl
+  leaf-ends desc = grind arith
 
   table-ends : (desc : ℕ) → EndsAt l.level (table_next p l desc)
   unfolding table_next
-  table-ends desc = go (beyond p.outputsize desc) _
-    where
-      go : (b : Bool) (k : Lookup) → EndsAt l.level (if b then ends (faults (address_size l.level)) else deeper k)
-      go true k = refl
-      go false k = tt
+  table-ends desc = grind arith
 
   level-ends : (desc : ℕ) → EndsAt l.level (level_next p va l desc)
   unfolding level_next
-  level-ends desc = go (not (valid desc) || (eqb l.level 3 && not (table_or_page desc))) (eqb l.level 3 || not (table_or_page desc))
-    where
-      go : (a b : Bool) → EndsAt l.level
-          (if a then ends (faults (translation l.level)) else if b then ends (leaf_result p va l desc) else table_next p l desc)
-      go true b = refl
-      go false true = leaf-ends desc
-      go false false = table-ends desc
+  level-ends desc = grind (arith, leaf-ends, table-ends)
 
   lookup-ends : (memory : ℕ → Option ℕ) → EndsAt l.level (lookup_next memory p va l)
   unfolding lookup_next
-  lookup-ends memory = go (memory (descaddr p va l))
-    where
-      go : (x : Option ℕ) → EndsAt l.level (on_word x (level_next p va l) (ends (faults (external_abort l.level))))
-      go (Some desc) = level-ends desc
-      go None = refl
+  lookup-ends memory = grind (arith, level-ends)
 
 module _ (va vb : ℕ) (up : va ≤ vb) (p : Params) where
   -- addresses of one block of a level
@@ -110,75 +84,31 @@ module _ (va vb : ℕ) (up : va ≤ vb) (p : Params) where
   leaf-further : (l : Lookup) (desc : ℕ) → Same l.level
       → mapped (leaf_translation p vb l desc) ≡ further (vb - va) (mapped (leaf_translation p va l desc))
   unfolding leaf_translation
-  leaf-further l desc e =
-      let o = offset-grows va vb (addrselectbottom p.largegrain l.level) up e in
-      let a : align_down (desc % 2 ^ 48) (addrselectbottom p.largegrain l.level) + vb % 2 ^ addrselectbottom p.largegrain l.level
-      ≡ align_down (desc % 2 ^ 48) (addrselectbottom p.largegrain l.level) + va % 2 ^ addrselectbottom p.largegrain l.level + (vb - va) = omega arith in
-      ap (λ (x : ℕ). mapped (record (leaf_translation p va l desc) { address = x })) a
+  leaf-further l desc e = grind (arith, offset-grows va vb (addrselectbottom p.largegrain l.level) up e)
 
   result-further : (l : Lookup) (desc : ℕ) → Same l.level → leaf_result p vb l desc ≡ further (vb - va) (leaf_result p va l desc)
   unfolding leaf_result
-  result-further l desc e = go (ltb l.level (firstblocklevel p.largegrain)) (beyond p.outputsize desc) (af desc)
-    where
-      leaf : Bool → Bool → Bool → ℕ → Result
-      leaf a b c v =
-          if a then faults (translation l.level)
-          else if b then faults (address_size l.level)
-          else if c then mapped (leaf_translation p v l desc) else faults (access_flag l.level)
-
-      go : (a b c : Bool) → leaf a b c vb ≡ further (vb - va) (leaf a b c va)
-      go true b c = refl
-      go false true c = refl
-      go false false true = leaf-further l desc e
-      go false false false = refl
+  result-further l desc e = grind (arith, leaf-further)
 
   table-further : (l : Lookup) (desc : ℕ) → table_next p l desc ≡ further_next (vb - va) (table_next p l desc)
   unfolding table_next
-  table-further l desc = go (beyond p.outputsize desc) _
-    where
-      go : (b : Bool) (k : Lookup) → (if b then ends (faults (address_size l.level)) else deeper k)
-          ≡ further_next (vb - va) (if b then ends (faults (address_size l.level)) else deeper k)
-      go true k = refl
-      go false k = refl
+  table-further l desc = grind arith
 
   level-further : (l : Lookup) (desc : ℕ) → Same l.level → level_next p vb l desc ≡ further_next (vb - va) (level_next p va l desc)
   unfolding level_next
-  level-further l desc e = go (not (valid desc) || (eqb l.level 3 && not (table_or_page desc))) (eqb l.level 3 || not (table_or_page desc))
-    where
-      next : Bool → Bool → ℕ → Next
-      next a b v = if a then ends (faults (translation l.level)) else if b then ends (leaf_result p v l desc) else table_next p l desc
-
-      go : (a b : Bool) → next a b vb ≡ further_next (vb - va) (next a b va)
-      go true b = refl
-      go false true = ap ends (result-further l desc e)
-      go false false = table-further l desc
+  level-further l desc e = grind (arith, result-further, table-further)
 
   lookup-further : (memory : ℕ → Option ℕ) (l : Lookup) → Same l.level
       → lookup_next memory p vb l ≡ further_next (vb - va) (lookup_next memory p va l)
   unfolding lookup_next descaddr
-  lookup-further memory l e = rw e (go (memory (descaddr p vb l)))
-    where
-      next : Option ℕ → ℕ → Next
-      next x v = on_word x (level_next p v l) (ends (faults (external_abort l.level)))
-
-      go : (x : Option ℕ) → next x vb ≡ further_next (vb - va) (next x va)
-      go (Some desc) = level-further l desc e
-      go None = refl
+  lookup-further memory l e = rw e (grind (arith, level-further))
 
   module _ (low : 32 ≤ p.outputsize) (high : p.outputsize ≤ 44) (memory : ℕ → Option ℕ) where
     -- a walk ends no higher than where it stands
     below : (n : ℕ) (l : Lookup) → l.level ≤ 3 → l.level ≤ result-level (walk_from n memory p va l)
     unfolding walk_from
     below zero l h = h
-    below (suc n) l h = go (lookup_next memory p va l) refl (below n)
-      where
-        go : (x : Next) → lookup_next memory p va l ≡ x → ((k : Lookup) → k.level ≤ 3 → k.level ≤ result-level (walk_from n memory p va k))
-            → l.level ≤ result-level (on_next x (walk_from n memory p va))
-        go (deeper k) e ih =
-            let d = next_level p low high va memory l k h e in
-            let i = ih k d.1 in
-            omega (arith, d.0)
-        go (ends r) e ih = let d = subst (EndsAt l.level) e (lookup-ends p va l memory) in omega (arith, d)
+    below (suc n) l h = grind (arith, below n, next_level p low high va memory l, lookup-ends p va l memory)
 
     from-further : (n : ℕ) (l : Lookup) → l.level ≤ 3 → Same (result-level (walk_from n memory p va l))
         → walk_from n memory p vb l ≡ further (vb - va) (walk_from n memory p va l)
@@ -186,27 +116,12 @@ module _ (va vb : ℕ) (up : va ≤ vb) (p : Params) where
     from-further zero l h e = refl
     from-further (suc n) l h e =
         let s = same-higher l.level (result-level (walk_from (suc n) memory p va l)) (below (suc n) l h) e in
-        rw (lookup-further memory l s) (go (lookup_next memory p va l) refl e (from-further n))
-      where
-        go : (x : Next) → lookup_next memory p va l ≡ x → Same (result-level (on_next x (walk_from n memory p va)))
-            → ((k : Lookup) → k.level ≤ 3 → Same (result-level (walk_from n memory p va k))
-            → walk_from n memory p vb k ≡ further (vb - va) (walk_from n memory p va k))
-            → on_next (further_next (vb - va) x) (walk_from n memory p vb) ≡ further (vb - va) (on_next x (walk_from n memory p va))
-        go (deeper k) d e ih = ih k (next_level p low high va memory l k h d).1 e
-        go (ends r) d e ih = refl
+        rw (lookup-further memory l s) (grind (arith, from-further n, next_level p low high va memory l))
 
     range-further : (g : Range) → p.largegrain ≡ g.largegrain → in_range g va ≡ true → in_range g vb ≡ true
         → Same (result-level (walk_range p g va memory)) → walk_range p g vb memory ≡ further (vb - va) (walk_range p g va memory)
     unfolding walk_range
-    range-further g q a b = rw (a, b) (go g.disabled (beyond p.outputsize g.baseregister))
-      where
-        result : Bool → Bool → ℕ → Result
-        result x y v = if x then faults (translation 0) else if y then faults (address_size 0) else walk_from (4 - startlevel g) memory p v (first_lookup g)
-
-        go : (x y : Bool) → Same (result-level (result x y va)) → result x y vb ≡ further (vb - va) (result x y va)
-        go true y e = refl
-        go false true e = refl
-        go false false e = from-further (4 - startlevel g) (first_lookup g) (start-level g) e
+    range-further g q a b = grind (arith, from-further (4 - startlevel g) (first_lookup g) (start-level g))
 
 -- LARGE BLOCKS: bit 55 chooses the range, and no block is larger
 
@@ -222,16 +137,11 @@ within-55 false n = omega arith
 
 -- the level of a walk's end is the manual's
 walked-level : (singlepriv wxn : Bool) (va : ℕ) (x : Result) → Sound va x → level_of (walked_of singlepriv wxn x) ≡ result-level x
-walked-level singlepriv wxn va (mapped t) h = refl
-walked-level singlepriv wxn va (faults (address_size n)) h = omega arith
-walked-level singlepriv wxn va (faults (translation n)) h = omega arith
-walked-level singlepriv wxn va (faults (access_flag n)) h = omega arith
-walked-level singlepriv wxn va (faults (external_abort n)) h = omega arith
+walked-level singlepriv wxn va x h = grind arith
 
 walked-further : (singlepriv wxn : Bool) (k : ℕ) (x : Result)
     → place_of (walked_of singlepriv wxn (further k x)) ≡ ahead (place_of (walked_of singlepriv wxn x)) k
-walked-further singlepriv wxn k (mapped t) = refl
-walked-further singlepriv wxn k (faults f) = refl
+walked-further singlepriv wxn k x = grind arith
 
 module _ (s : Bank) (r : Regime) (va vb : ℕ) (memory : ℕ → Option ℕ) where
   -- addresses of one block, of the level at which the walk of the first ends
@@ -278,8 +188,4 @@ place-ahead s r va vb memory up h = go (in_range (range_of s r va) va) refl
 
 -- a level is at most 3
 pub level-within : (s : Bank) (r : Regime) (va : ℕ) (memory : ℕ → Option ℕ) → level_of (walk_of s r va memory) ≤ 3
-level-within s r va memory = go (walk_of s r va memory) (walk-sound s r va memory)
-  where
-    go : (x : Walked) → SoundWalked va x → level_of x ≤ 3
-    go (Ok leaf) h = h.0.level-high
-    go (Err n) h = omega arith
+level-within s r va memory = grind (arith, walk-sound s r va memory)

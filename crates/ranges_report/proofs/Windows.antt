@@ -1,8 +1,6 @@
 -- A block by its ends, and a range by its ends.
-use Rattle.std.specs.Prelude.{◌≡◌, refl, Bool, true, false, not, ◌||◌, ltb, ℕ, ◌+◌, ◌-◌, ◌*◌, ◌/◌, ◌%◌, ◌^◌, ◌≤◌, ◌<◌, max, min}
-use Rattle.std.proofs.Common.{sym, ap, ◌∙◌, arith, pow_pos, mod-lt, ltb-true, ltb-false, lt-ltb, le-ltb, pow_mono, pow-add}
-use Rattle.std.proofs.Math.Pow.{split}
-use Rattle.std.proofs.lemmas.Nat.{div-mul-add}
+use Rattle.std.specs.Prelude.{◌≡◌, Bool, true, false, not, ◌||◌, ltb, ℕ, ◌+◌, ◌-◌, ◌*◌, ◌/◌, ◌%◌, ◌^◌, ◌≤◌, ◌<◌, max, min}
+use Rattle.std.proofs.Common.{ap, ◌∙◌, arith, pow_pos, ltb-true, ltb-false, le-ltb, pow_mono, pow-add}
 use Rattle.word.specs.Bits.{align_down}
 use Rattle.word.proofs.BitLaws.{join-small}
 use Rattle.walk.specs.Table.{in_range, inputsize}
@@ -17,32 +15,12 @@ block-fits va n h k =
     let r : 2 ^ n - 1 < 2 ^ n = omega arith in
     join-small {x = va} {r = 2 ^ n - 1} {k = n} {n = 64} (omega arith) h r
 
--- what lies from an address to its block's end is in the block
-pub block-same : (va vb n : ℕ) → va ≤ vb → vb ≤ align_down va n + (2 ^ n - 1) → va / 2 ^ n ≡ vb / 2 ^ n
-block-same va vb n h k =
-    let p = pow_pos n in
-    let s = split va n in
-    let r : vb - align_down va n < 2 ^ n = omega arith in
-    let e : align_down va n + (vb - align_down va n) ≡ vb = omega arith in
-    sym (div-mul-add (va / 2 ^ n) (2 ^ n) (vb - align_down va n) r) ∙ ap (λ (x : ℕ). x / 2 ^ n) e
-
-pub block-reaches : (va n : ℕ) → va ≤ align_down va n + (2 ^ n - 1)
-block-reaches va n =
-    let p = pow_pos n in
-    let m = mod-lt va p in
-    omega (arith, split va n)
-
 -- what is not above the last is below the one after it
 below-next : (va n : ℕ) → 0 < n → ltb va n ≡ not (ltb (n - 1) va)
-below-next va n p = go (ltb va n) refl
-  where
-    go : (b : Bool) → ltb va n ≡ b → b ≡ not (ltb (n - 1) va)
-    go true e = let h = ltb-true va n e in rw (le-ltb (n - 1) va (omega arith))
-    go false e = let h = ltb-false va n e in rw (lt-ltb (n - 1) va (omega arith))
+below-next va n p = grind (arith, ltb-true, ltb-false)
 
 or-false : (b : Bool) → not b ≡ not (b || false)
-or-false true = refl
-or-false false = refl
+or-false b = grind arith
 
 module _ (g : Range) (va : ℕ) where
   -- the code's number of high bits that are no input

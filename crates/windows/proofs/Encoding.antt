@@ -1,6 +1,6 @@
 -- A list written from right windows is read as these windows.
 use Rattle.std.specs.Prelude.{◌≡◌, refl, ℕ, zero, suc, ◌+◌, ◌*◌, ◌/◌, ◌%◌, ◌^◌, ◌<◌, List, [], ◌∷◌, ◌++◌, length, flat_map, Ok}
-use Rattle.std.proofs.Common.{sym, ap, ap₂, ◌∙◌, append_assoc, append-nil, not-suc-le-zero, arith}
+use Rattle.std.proofs.Common.{sym, ap, ap₂, ◌∙◌, append_assoc, append-nil, arith}
 use Rattle.std.proofs.lemmas.List.{length-append, get_or-append-add}
 use Rattle.std.proofs.Common.{pow-suc}
 use Rattle.word.specs.Ram.{little_endian, bytes_of}
@@ -37,24 +37,18 @@ module _ (m : ℕ) (value : Window → ℕ) where
 
   length-chunks : (ws : List Window) → length (chunks ws) ≡ m * length ws
   length-chunks [] = omega arith
-  length-chunks (w ∷ ws) = length-append (bytes_of m (value w)) (chunks ws) ∙ rw (length-bytes m (value w), length-chunks ws) (more m (length ws))
-    where
-      more : (a b : ℕ) → a + a * b ≡ a * suc b
-      more a b = grind arith
+  length-chunks (w ∷ ws) = grind (arith, length-append (bytes_of m (value w)) (chunks ws), length-bytes m (value w), length-chunks ws)
 
   chunk_at : (ws : List Window) (rest : List ℕ) (i : ℕ) → i < length ws → ((k : ℕ) → k < length ws → value (window ws k) < 256 ^ m)
       → little_endian (chunks ws ++ rest) m (m * i) ≡ value (window ws i)
-  chunk_at [] rest i l h = absurd (not-suc-le-zero l)
+  chunk_at [] rest i l h = absurd (omega arith)
   chunk_at (w ∷ ws) rest zero l h =
       let first : m * 0 ≡ 0 = omega arith in
       rw (append_assoc (bytes_of m (value w)) (chunks ws) rest, first) (le-of-bytes m (value w) (chunks ws ++ rest) (h 0 (omega arith)))
   chunk_at (w ∷ ws) rest (suc i) l h =
-      let next : m * suc i ≡ length (bytes_of m (value w)) + m * i = rw length-bytes (more m i) in
+      let next : m * suc i ≡ length (bytes_of m (value w)) + m * i = grind (arith, length-bytes m (value w)) in
       rw (append_assoc (bytes_of m (value w)) (chunks ws) rest, next)
       (le-past (bytes_of m (value w)) (chunks ws ++ rest) m (m * i) ∙ chunk_at ws rest i (omega arith) (λ k e. h (suc k) (omega arith)))
-    where
-      more : (a b : ℕ) → a * suc b ≡ a + a * b
-      more a b = grind arith
 
 own-table : (ws : List Window) → table (length ws) (window ws) ≡ ws
 unfolding table
@@ -101,8 +95,14 @@ module _ (ws : List Window) (h : RightWindows ws) where
   long-is : length bytes ≡ 2 + 10 * length ws
   unfolding bytes_of_windows
   long-is =
-      length-append (bytes_of 2 (length ws)) (starts ++ lengths)
-      ∙ omega (arith, length-bytes 2 (length ws), length-append starts lengths, length-chunks 8 (λ w. w.start) ws, length-chunks 2 (λ w. w.pages) ws)
+      omega (
+        arith,
+        length-append (bytes_of 2 (length ws)) (starts ++ lengths),
+        length-bytes 2 (length ws),
+        length-append starts lengths,
+        length-chunks 8 (λ w. w.start) ws,
+        length-chunks 2 (λ w. w.pages) ws,
+      )
 
   window-is : (i : ℕ) → i < length ws → window_at bytes (length ws) i ≡ window ws i
   window-is i l = ap₂ (λ (a b : ℕ). record { start = a; pages = b }) (start-is i l) (pages-is i l)

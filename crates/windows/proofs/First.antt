@@ -2,7 +2,7 @@
 use Rattle.std.specs.Prelude.{if◌then◌else◌, ◌≡◌, refl, ℕ, zero, suc, ◌+◌, ◌<◌, Bool, List, [], ◌∷◌, ◌++◌, map}
 use Rattle.std.specs.Prelude.{Option, Some, None, filter, filter_map, flat_map, find}
 use Rattle.std.specs.List.{cons_option}
-use Rattle.std.proofs.Common.{sym, ap, ap₂, add-one, not-suc-le-zero, arith}
+use Rattle.std.proofs.Common.{sym, ap, ap₂, add-one, arith}
 use Rattle.word.specs.Tables.{table}
 use Rattle.windows.specs.Window.{below, first_in}
 
@@ -27,8 +27,8 @@ module _ {A : Type 0} where
   -- found at i, and at no number below it
   pub least-some : (f : ℕ → Option A) (i n : ℕ) (a : A) → least f i ≡ None → f i ≡ Some a → i < n → least f n ≡ Some a
   unfolding least
-  least-some f i zero a e h l = absurd (not-suc-le-zero l)
-  least-some f i (suc n) a e h l = let found = least-some f i n a e h in grind arith
+  least-some f i zero a e h l = absurd (omega arith)
+  least-some f i (suc n) a e h l = grind (arith, least-some f i n a e h)
 
   pub least-same : (f g : ℕ → Option A) (n : ℕ) → ((i : ℕ) → i < n → f i ≡ g i) → least f n ≡ least g n
   unfolding least
@@ -38,7 +38,7 @@ module _ {A : Type 0} where
   pub least-clear : (f : ℕ → Option A) (n : ℕ) → ((i : ℕ) → i < n → f i ≡ None) → least f n ≡ None
   unfolding least
   least-clear f zero h = refl
-  least-clear f (suc n) h = rw (least-clear f n (λ i l. h i (omega arith)), h n (omega arith)) refl
+  least-clear f (suc n) h = grind (arith, least-clear f n (λ i l. h i (omega arith)), h n)
 
   least-front : (f : ℕ → Option A) (n : ℕ) → least f (suc n) ≡ or_else (f 0) (least (λ i. f (suc i)) n)
   unfolding least

@@ -1,8 +1,8 @@
 -- What an answer says of pages and windows.
-use Rattle.std.specs.Prelude.{◌≡◌, refl, ℕ, zero, suc, ◌/◌, ◌<◌, ◌≤◌, ◌⊎◌, ◌==◌, Bool, true, false, List, length, nat_lt, Option, Some, None, Ok, Err, filter_map, unwrap_or}
+use Rattle.std.specs.Prelude.{◌≡◌, refl, ℕ, zero, suc, ◌/◌, ◌<◌, ◌≤◌, ◌⊎◌, ◌==◌, Bool, true, false, List, length, Option, Some, None, Ok, Err, filter_map}
 use Rattle.std.specs.List.{list_any, cons_option}
-use Rattle.std.proofs.Common.{sym, ap, ◌∙◌, subst, inl, inr, not-suc-le-zero, arith}
-use borrow.Author.Tests.{lt-ltb, ltb-true, ltb-false, eqb-true, eq-eqb}
+use Rattle.std.proofs.Common.{sym, ap, ◌∙◌, subst, inl, inr, arith}
+use borrow.Author.Tests.{eqb-true, eq-eqb}
 use Rattle.word.specs.Tables.{table}
 use Rattle.sysreg.specs.declared.regs.Control.{Control}
 use Rattle.fault.specs.declared.Fault.{Fault}
@@ -41,12 +41,6 @@ module _ {A : Type 0} where
           let same : ◌≡◌ {A = Option A} (Some b) (Some a) = rw is at h in
           let lower = found (is ∙ same) in record { at = lower.at; low = omega (arith, lower.low); is = lower.is; before = lower.before }
       go None is found = record { at = n; low = omega arith; is = rw is at h; before = all-none f n is }
-
-  has-least : (f : ℕ → Option A) (n k : ℕ) (a : A) → k < n → f k ≡ Some a → least f n ≡ None → ⊥
-  has-least f n k a l is none = let z : ◌≡◌ {A = Option A} (Some a) None = sym is ∙ all-none f n none k l in absurd-option z
-    where
-      absurd-option : ◌≡◌ {A = Option A} (Some a) None → ⊥
-      absurd-option z = cc
 
 -- FAULTS
 
@@ -95,11 +89,7 @@ module _ (control : Control) (level : ℕ) (memory : ℕ → Option ℕ) (ws : L
       let o = fault-found e h in
       let p = found-at (fault_at o.at) (window ws o.at).pages e o.is in
       let q = fault-is o.at p.at (ends o.at p.at) e p.is in
-      moved o.at p.at e.window e.page e.fault q.1 q.2 o.low p.low q.0
-    where
-      moved : (i j w p : ℕ) (f : Fault) → w ≡ i → p ≡ j → i < length ws → j < (window ws i).pages → ends i j ≡ Err f
-          → IsPage ws w p × (ends w p ≡ Err f)
-      moved i j w p f a b l m is = rw (a, b) (record { listed = l; within = m }, is)
+      (record { listed = grind (arith, q, o.low); within = grind (arith, q, p.low) }, grind (arith, q))
 
   -- and each before it is an address
   pub before-told : (e : PageFault) → answer ≡ Err (Error.Page e) → (i j : ℕ) → IsPage ws i j → Earlier i j e.window e.page → (pa : ℕ) × (ends i j ≡ Ok pa)
@@ -107,26 +97,18 @@ module _ (control : Control) (level : ℕ) (memory : ℕ → Option ℕ) (ws : L
       let o = fault-found e h in
       let l = found-at (fault_at o.at) (window ws o.at).pages e o.is in
       let q = fault-is o.at l.at (ends o.at l.at) e l.is in
-      elim early [
-        | inl a ↦
-            no-fault i j (ends i j)
-            (all-none (fault_at i) (window ws i).pages (o.before i (let w = q.1 in omega arith)) j p.within)
-        | inr b ↦
-            no-fault i j (ends i j)
-            (let same : i ≡ o.at = b.0 ∙ q.1 in
-            subst (λ (k : ℕ). fault_at k j ≡ None) (sym same) (l.before j (let w = q.2 in let m = b.1 in omega arith)))
-      ]
+      let a : i < o.at → fault_at i j ≡ None = λ z. all-none (fault_at i) (window ws i).pages (o.before i z) j p.within in
+      let b : i ≡ o.at → j < l.at → fault_at i j ≡ None = λ z m. rw z (l.before j m) in
+      no-fault i j (ends i j) (grind (arith, a, b, q))
 
   -- a page that faults is told, whatever windows share pages
   pub fault-told : (i j : ℕ) (f : Fault) → IsPage ws i j → ends i j ≡ Err f → (e : PageFault) × (answer ≡ Err (Error.Page e))
   fault-told i j f p is = go first_fault refl
     where
       go : (o : Option PageFault) → first_fault ≡ o → (e : PageFault) × (answer ≡ Err (Error.Page e))
-      go (Some e) o = (e, found-is ∙ ap (λ (x : Option PageFault). unless_fault x (first_meeting (length ws) (frames_at control level memory ws))) o)
+      go (Some e) o = (e, grind (arith, found-is))
       go None o =
-          absurd
-          (has-least (fault_at i) (window ws i).pages j (record { window = i; page = j; fault = f }) p.within (ap (fault_in i j) is)
-          (all-none window_fault (length ws) o i p.listed))
+          let none = all-none (fault_at i) (window ws i).pages (all-none window_fault (length ws) o i p.listed) j p.within in absurd (grind (arith, none))
 
   -- where there is an answer every page is an address
   pub all-reached : (q : Option Pair) → answer ≡ Ok q → (i j : ℕ) → IsPage ws i j → (pa : ℕ) × (ends i j ≡ Ok pa)
@@ -159,23 +141,15 @@ module _ {A : Type 0} where
             record { at = suc l.at; low = (let m = l.low in omega arith); value = l.value; is = l.is; passes = l.passes }
       ]
 
-  cons-among : (test : A → Bool) (x : Option A) (xs : List A) (a : A) → x ≡ Some a → test a ≡ true → list_any test (cons_option x xs) ≡ true
-  cons-among test x xs a is e = rw (is, e) refl
-
-  cons-keeps : (test : A → Bool) (x : Option A) (xs : List A) → list_any test xs ≡ true → list_any test (cons_option x xs) ≡ true
-  cons-keeps test x xs e = grind arith
-
   among-to : (test : A → Bool) (n : ℕ) (g : ℕ → Option A) (h : ℕ → ℕ) (i : ℕ) (a : A) → i < n → g (h i) ≡ Some a → test a ≡ true
       → list_any test (filter_map g (table n h)) ≡ true
   unfolding table
-  among-to test zero g h i a l is e = absurd (not-suc-le-zero l)
-  among-to test (suc n) g h zero a l is e = cons-among test (g (h 0)) _ a is e
-  among-to test (suc n) g h (suc i) a l is e =
-      cons-keeps test (g (h 0)) _ (among-to test n g (λ j. h (suc j)) i a (omega arith) is e)
+  among-to test zero g h i a l is e = absurd (omega arith)
+  among-to test (suc n) g h zero a l is e = grind arith
+  among-to test (suc n) g h (suc i) a l is e = grind (arith, among-to test n g (λ j. h (suc j)) i a)
 
 frame-is : (x : Answer) (n : ℕ) → frame_in x ≡ Some n → (pa : ℕ) × (x ≡ Ok pa) × (pa / 4096 ≡ n)
-frame-is (Ok pa) n h = (pa, refl, ap (λ (o : Option ℕ). unwrap_or o 0) h)
-frame-is (Err f) n h = grind arith
+frame-is x n h = grind arith
 
 module _ (control : Control) (level : ℕ) (memory : ℕ → Option ℕ) (ws : List Window) where
   abbrev page_of : ℕ → ℕ → Option ℕ
@@ -224,11 +198,7 @@ module _ (control : Control) (level : ℕ) (memory : ℕ → Option ℕ) (ws : L
   pass-is i k p h = grind arith
 
   pass-none : (i k : ℕ) → meeting_with pages i k ≡ None → i < k → shares i k → ⊥
-  pass-none i k h l s =
-      let z : ◌≡◌ {A = Option Pair} (Some (pair i k)) None = rw (lt-ltb i k l, shared-to i k s) at h in unequal z
-    where
-      unequal : ◌≡◌ {A = Option Pair} (Some (pair i k)) None → ⊥
-      unequal z = cc
+  pass-none i k h l s = grind (arith, shared-to i k s)
 
   -- the pair that is told has a lower and a higher number, and shares a physical page
   pub told-pair : (p : Pair) → found_in control level memory ws ≡ Ok (Some p) → (p.first < p.second) × (p.second < length ws) × shares p.first p.second
@@ -246,20 +216,9 @@ module _ (control : Control) (level : ℕ) (memory : ℕ → Option ℕ) (ws : L
       let o = found-at (meeting_of (length ws) pages) (length ws) p (search-is (Some p) h) in
       let l = found-at (meeting_with pages o.at) (length ws) p o.is in
       let q = pass-is o.at l.at p l.is in
-      subst (λ (r : Pair). (r.first < i) ⊎ ((r.first ≡ i) × (r.second ≤ k))) q.2
-      (go o.at l.at (nat_lt o.at i) (nat_lt i o.at) (nat_lt k l.at) refl refl refl o.before l.before)
-    where
-      go : (a b : ℕ) (x y z : Bool) → nat_lt a i ≡ x → nat_lt i a ≡ y → nat_lt k b ≡ z
-          → ((n : ℕ) → n < a → meeting_of (length ws) pages n ≡ None) → ((n : ℕ) → n < b → meeting_with pages a n ≡ None)
-          → (a < i) ⊎ ((a ≡ i) × (b ≤ k))
-      go a b true y z ex ey ez outer inner = inl (ltb-true a i ex)
-      go a b false true z ex ey ez outer inner =
-          absurd (pass-none i k (all-none (meeting_with pages i) (length ws) (outer i (ltb-true i a ey)) k m) below s)
-      go a b false false true ex ey ez outer inner =
-          let same : a ≡ i = (let f = ltb-false a i ex in let g = ltb-false i a ey in omega arith) in
-          absurd (pass-none i k (rw same at (inner k (ltb-true k b ez))) below s)
-      go a b false false false ex ey ez outer inner =
-          inr ((let f = ltb-false a i ex in let g = ltb-false i a ey in omega arith), ltb-false k b ez)
+      let sooner : i < o.at → ⊥ = λ z. pass-none i k (all-none (meeting_with pages i) (length ws) (o.before i z) k m) below s in
+      let later : i ≡ o.at → k < l.at → ⊥ = λ z n. pass-none i k (rw z (l.before k n)) below s in
+      grind (arith, q, sooner, later)
 
   pub none-share : found_in control level memory ws ≡ Ok None → (i k : ℕ) → i < k → k < length ws → shares i k → ⊥
   none-share h i k l m s =
@@ -269,24 +228,12 @@ module _ (control : Control) (level : ℕ) (memory : ℕ → Option ℕ) (ws : L
   -- pages that repeat only inside windows leave the windows apart
   pub apart-if : ((i j : ℕ) → IsPage ws i j → (pa : ℕ) × (answer_at control level memory ws i j ≡ Ok pa))
       → ((i k : ℕ) → i < k → k < length ws → shares i k → ⊥) → found_in control level memory ws ≡ Ok None
-  apart-if reached apart = go (first_fault control level memory ws) refl
+  apart-if reached apart = go (found_in control level memory ws) refl
     where
-      told : (o : Option PageFault) → first_fault control level memory ws ≡ o
-          → found_in control level memory ws ≡ unless_fault o (first_meeting (length ws) pages)
-      told o e =
-          found-is control level memory ws ∙ ap (λ (x : Option PageFault). unless_fault x (first_meeting (length ws) pages)) e
-
-      both : (x : Answer) (pa : ℕ) (f : Fault) → x ≡ Ok pa → x ≡ Err f → ⊥
-      both x pa f a b = let z : ◌≡◌ {A = Answer} (Ok pa) (Err f) = sym a ∙ b in cc
-
-      met : (q : Option Pair) → pair-search ≡ q → found_in control level memory ws ≡ Ok (first_meeting (length ws) pages)
-          → found_in control level memory ws ≡ Ok None
-      met None e h = h ∙ ap Ok (first-least pages (length ws) ∙ e)
-      met (Some p) e h =
-          let t = told-pair p (h ∙ ap Ok (first-least pages (length ws) ∙ e)) in absurd (apart p.first p.second t.0 t.1 t.2)
-
-      go : (o : Option PageFault) → first_fault control level memory ws ≡ o → found_in control level memory ws ≡ Ok None
-      go (Some e) f =
-          let t = told-page control level memory ws e (told (Some e) f) in
-          let r = reached e.window e.page t.0 in absurd (both (answer_at control level memory ws e.window e.page) r.0 e.fault r.1 t.1)
-      go None f = met pair-search refl (told None f)
+      go : (x : Found) → found_in control level memory ws ≡ x → found_in control level memory ws ≡ Ok None
+      go (Ok None) e = e
+      go (Ok (Some p)) e = let t = told-pair p e in absurd (apart p.first p.second t.0 t.1 t.2)
+      go (Err (Error.Page e)) h =
+          let t = told-page control level memory ws e h in let r = reached e.window e.page t.0 in absurd (grind (arith, t, r))
+      go (Err (Error.Check c)) h = absurd (grind (arith, found-is control level memory ws))
+      go (Err (Error.List w)) h = absurd (grind (arith, found-is control level memory ws))

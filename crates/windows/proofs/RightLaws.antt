@@ -1,10 +1,9 @@
 -- A list is read just where it is right, and what a reason says is true.
-use Rattle.std.specs.Prelude.{if◌then◌else◌, ◌≡◌, ◌≢◌, refl, ℕ, ◌+◌, ◌*◌, ◌%◌, ◌^◌, ◌<◌, ◌≤◌, ◌⊎◌, ◌==◌, not, Bool, true, false, List, length, nat_lt, Option, Some, None, Ok, Err, Result}
-use Rattle.std.proofs.Common.{sym, ◌∙◌, subst, inl, inr, arith}
-use borrow.Author.Tests.{ltb-true, ltb-false, eqb-true, eqb-false}
+use Rattle.std.specs.Prelude.{◌≡◌, ◌≢◌, refl, ℕ, ◌+◌, ◌*◌, ◌%◌, ◌^◌, ◌<◌, ◌≤◌, ◌⊎◌, List, Some, None, Ok, Err}
+use Rattle.std.proofs.Common.{sym, ◌∙◌, arith}
 use Rattle.word.specs.Tables.{table}
 use Rattle.windows.specs.Window.{first_in}
-use Rattle.windows.specs.List.{count_of, window_at, wrong_of, wrongs, unless, list_of, Counted}
+use Rattle.windows.specs.List.{count_of, window_at, wrong_of, wrongs, list_of, Counted}
 use Rattle.windows.specs.Right.{RightWindow, RightList, RightBefore, Told}
 use Rattle.windows.specs.declared.list.{Window.Window, Malformed.Malformed}
 use Rattle.windows.specs.declared.list.Malformed.TheVariants.{Length, Count, Start, Pages, End}
@@ -52,62 +51,24 @@ module _ (bytes : List ℕ) where
   right-before : (i : ℕ) → ((k : ℕ) → k < i → wrong_at bytes n k ≡ None) → (k : ℕ) → k < i → RightWindow (window_at bytes n k)
   right-before i h k l = none-right k (window_at bytes n k) (h k l)
 
-  abbrev by_windows : Result (List Window) Malformed
-  by_windows = unless (first_in (wrongs bytes n)) (table n (window_at bytes n))
-
   first-wrong : first_in (wrongs bytes n) ≡ least (wrong_at bytes n) n
   first-wrong = first-filter_map (wrong_at bytes n) n (λ k. k)
 
   pub read-right : (ws : List Window) → list_of bytes ≡ Ok ws → RightList bytes × (ws ≡ table n (window_at bytes n))
   unfolding list_of
   read-right ws h =
-      go (nat_lt (length bytes) 2) (nat_lt 64 n) (length bytes == 2 + 10 * n) refl refl refl h
-    where
-      clear : (o : Option Malformed) (vs : List Window) → unless o vs ≡ Ok ws → (o ≡ None) × (ws ≡ vs)
-      clear o vs e = grind arith
+      let none : first_in (wrongs bytes n) ≡ None = grind arith in
+      (record { begun = grind arith; few = grind arith; long = grind arith; right = right-before n (all-none (wrong_at bytes n) n (sym first-wrong ∙ none)) }, grind arith)
 
-      go : (a b c : Bool) → nat_lt (length bytes) 2 ≡ a → nat_lt 64 n ≡ b → (length bytes == 2 + 10 * n) ≡ c
-          → (if a then Err Length else if b then Err Count else if not c then Err Length else by_windows) ≡ Ok ws
-          → RightList bytes × (ws ≡ table n (window_at bytes n))
-      go true b c ea eb ec is = cc
-      go false true c ea eb ec is = cc
-      go false false false ea eb ec is = cc
-      go false false true ea eb ec is =
-          let p = clear (first_in (wrongs bytes n)) (table n (window_at bytes n)) is in
-          let right = right-before n (all-none (wrong_at bytes n) n (sym first-wrong ∙ p.0)) in
-          (record { begun = ltb-false _ 2 ea; few = ltb-false 64 n eb; long = eqb-true _ _ ec; right = right }, p.1)
+  by-window : (why : Malformed) → Counted bytes n → first_in (wrongs bytes n) ≡ Some why → (i : ℕ) × (RightBefore bytes i × Wrong i (window_at bytes n i) why)
+  by-window why c is =
+      let o = found-at (wrong_at bytes n) n why (sym first-wrong ∙ is) in
+      (o.at, (record { counted = c; listed = o.low; right = right-before o.at o.before }, wrong-says o.at (window_at bytes n o.at) why o.is))
 
   pub wrong-told : (why : Malformed) → list_of bytes ≡ Err why → Told bytes why
   unfolding list_of
-  wrong-told why h =
-      go (nat_lt (length bytes) 2) (nat_lt 64 n) (length bytes == 2 + 10 * n) refl refl refl h
-    where
-      same : (m : Malformed) → ◌≡◌ {A = Result (List Window) Malformed} (Err m) (Err why) → m ≡ why
-      same m e = cc
-
-      found : (o : Option Malformed) (vs : List Window) → unless o vs ≡ Err why → o ≡ Some why
-      found o vs e = grind arith
-
-      -- of the first window that is wrong
-      at_window : (i : ℕ) (m : Malformed) → RightBefore bytes i → Wrong i (window_at bytes n i) m → Told bytes m
-      at_window i Length b w = absurd w
-      at_window i Count b w = absurd w
-      at_window i (Start k) b w = rw (w.0) (b, w.1)
-      at_window i (Pages k) b w = rw (w.0) (b, w.1, w.2)
-      at_window i (End k) b w = rw (w.0) (b, w.1, w.2, w.3, w.4)
-
-      go : (a b c : Bool) → nat_lt (length bytes) 2 ≡ a → nat_lt 64 n ≡ b → (length bytes == 2 + 10 * n) ≡ c
-          → (if a then Err Length else if b then Err Count else if not c then Err Length else by_windows) ≡ Err why → Told bytes why
-      go true b c ea eb ec is = subst (Told bytes) (same Length is) (inl (ltb-true (length bytes) 2 ea))
-      go false true c ea eb ec is = subst (Told bytes) (same Count is) (ltb-false (length bytes) 2 ea, ltb-true 64 n eb)
-      go false false false ea eb ec is =
-          subst (Told bytes) (same Length is) (inr (ltb-false 64 n eb, eqb-false (length bytes) (2 + 10 * n) ec))
-      go false false true ea eb ec is =
-          let o = found-at (wrong_at bytes n) n why (sym first-wrong ∙ found (first_in (wrongs bytes n)) (table n (window_at bytes n)) is) in
-          at_window o.at why
-          (record {
-            counted = record { counts = refl; few = ltb-false 64 n eb; long = eqb-true (length bytes) (2 + 10 * n) ec };
-            listed = o.low;
-            right = right-before o.at o.before;
-          })
-          (wrong-says o.at (window_at bytes n o.at) why o.is)
+  wrong-told Length h = grind (arith, by-window Length)
+  wrong-told Count h = grind (arith, by-window Count)
+  wrong-told (Start k) h = let w = by-window (Start k) (grind arith) (grind arith) in rw (w.1.1.0) (w.1.0, w.1.1.1)
+  wrong-told (Pages k) h = let w = by-window (Pages k) (grind arith) (grind arith) in rw (w.1.1.0) (w.1.0, w.1.1.1, w.1.1.2)
+  wrong-told (End k) h = let w = by-window (End k) (grind arith) (grind arith) in rw (w.1.1.0) (w.1.0, w.1.1.1, w.1.1.2, w.1.1.3, w.1.1.4)

@@ -1,6 +1,7 @@
 -- Every right list is written from its windows.
-use Rattle.std.specs.Prelude.{◌≡◌, refl, ℕ, zero, suc, ◌+◌, ◌*◌, ◌/◌, ◌%◌, ◌<◌, ◌≤◌, List, [], ◌∷◌, ◌++◌, length, take, drop, slice_index, Ok}
-use Rattle.std.proofs.Common.{sym, ap, ap₂, ◌∙◌, zero-add, suc-add, add-one, drop-cons, arith}
+use Rattle.std.specs.Prelude.{◌≡◌, refl, ℕ, zero, suc, ◌+◌, ◌*◌, ◌/◌, ◌%◌, ◌<◌, ◌≤◌, List, ◌++◌, length, take, drop, slice_index, Ok}
+use Rattle.std.proofs.Common.{sym, ap, ap₂, ◌∙◌, add-one, drop-cons, arith}
+use Rattle.std.proofs.Math.Seq.{take-add}
 use Rattle.std.proofs.lemmas.List.{take_all, drop-drop}
 use Rattle.word.specs.Ram.{little_endian, bytes_of}
 use Rattle.word.specs.Tables.{table, table-length}
@@ -9,14 +10,6 @@ use Rattle.windows.specs.Right.{RightList, bytes_of_windows}
 use Rattle.windows.specs.declared.list.Window.{Window}
 use Rattle.windows.proofs.Encoding.{chunks}
 use Rattle.windows.proofs.RightLaws.{read-right}
-
-take-none : (n : ℕ) → take {A = ℕ} n [] ≡ []
-take-none n = grind arith
-
-take-both : (m n : ℕ) (xs : List ℕ) → take (m + n) xs ≡ take m xs ++ take n (drop m xs)
-take-both zero n xs = ap (λ (k : ℕ). take k xs) (zero-add n)
-take-both (suc m) n [] = grind (arith, suc-add, take-none)
-take-both (suc m) n (x ∷ xs) = rw (suc-add m n) (ap (λ (ys : List ℕ). x ∷ ys) (take-both m n xs))
 
 module _ (bytes : List ℕ) (small : (k : ℕ) → slice_index bytes k < 256) where
   -- the bytes of a value that is read are those that were read
@@ -37,18 +30,12 @@ module _ (bytes : List ℕ) (small : (k : ℕ) → slice_index bytes k < 256) wh
   chunk-table m value zero g a h l = let none : m * 0 ≡ 0 = omega arith in rw none refl
   chunk-table m value (suc c) g a h l =
       let here : a + m * 0 ≡ a = omega arith in
-      let more : m * suc c ≡ m + m * c = times m c in
+      let more : m * suc c ≡ m + m * c = grind arith in
       let first : bytes_of m (value (g 0)) ≡ take m (drop a bytes) = ap (bytes_of m) (rw here at (h 0 (omega arith))) ∙ bytes-of-le m a (omega arith) in
       ap₂ (λ (xs ys : List ℕ). xs ++ ys) first
-      (chunk-table m value c (λ i. g (suc i)) (a + m) (λ i k. h (suc i) (omega arith) ∙ ap (little_endian bytes m) (next i)) (omega arith))
+      (chunk-table m value c (λ i. g (suc i)) (a + m) (λ i k. h (suc i) (omega arith) ∙ ap (little_endian bytes m) (grind arith)) (omega arith))
       ∙ ap (λ (ys : List ℕ). take m (drop a bytes) ++ take (m * c) ys) (sym (drop-drop m a bytes))
-      ∙ sym (ap (λ (k : ℕ). take k (drop a bytes)) more ∙ take-both m (m * c) (drop a bytes))
-    where
-      times : (b d : ℕ) → b * suc d ≡ b + b * d
-      times b d = grind arith
-
-      next : (i : ℕ) → a + m * suc i ≡ a + m + m * i
-      next i = let t = times m i in omega arith
+      ∙ sym (ap (λ (k : ℕ). take k (drop a bytes)) more ∙ take-add m (m * c) (drop a bytes))
 
   abbrev n : ℕ
   n = count_of bytes
@@ -62,8 +49,8 @@ module _ (bytes : List ℕ) (small : (k : ℕ) → slice_index bytes k < 256) wh
       (chunk-table 8 (λ w. w.start) n (window_at bytes n) 2 (λ i l. refl) (let b = h.long in omega arith))
       (chunk-table 2 (λ w. w.pages) n (window_at bytes n) (2 + 8 * n) (λ i l. refl) (let b = h.long in omega arith))
       ∙ ap (λ (ys : List ℕ). take (8 * n) (drop 2 bytes) ++ take (2 * n) ys) (sym (drop-drop (8 * n) 2 bytes))
-      ∙ sym (take-both (8 * n) (2 * n) (drop 2 bytes)))
-      ∙ sym (take-both 2 (8 * n + 2 * n) bytes) ∙ take_all (2 + (8 * n + 2 * n)) bytes (let b = h.long in omega arith)
+      ∙ sym (take-add (8 * n) (2 * n) (drop 2 bytes)))
+      ∙ sym (take-add 2 (8 * n + 2 * n) bytes) ∙ take_all (2 + (8 * n + 2 * n)) bytes (let b = h.long in omega arith)
 
   pub read-written : (ws : List Window) → list_of bytes ≡ Ok ws → bytes ≡ bytes_of_windows ws
   read-written ws h = let r = read-right bytes ws h in sym (ap bytes_of_windows r.1 ∙ whole r.0)
