@@ -19,7 +19,7 @@ def functions(crate):
     """Each theorems' function of a crate, with the names of its clauses; a clause alone may have none."""
     path = ROOT / "crates" / crate / "src/theorems.rt"
     text = path.read_text() if path.exists() else ""
-    parts = re.split(r"^pub fn (\w+)\(", text, flags=re.M)[1:]
+    parts = re.split(r"^pub fn (\w+)(?:<.*>)?\(", text, flags=re.M)[1:]
     return [(name, [c.strip() for c in re.findall(r"^    ensures (\w+ )?\{", body, re.M)]) for name, body in zip(parts[::2], parts[1::2])]
 
 
