@@ -1,18 +1,15 @@
 -- Worked censuses, as one computed statement. SCTLR_EL1.M set, TTBR0_EL1 0x1000, a window of two words at 0x1000: 0, and a 1 GiB block at 0x80000000.
-use Rattle.std.specs.Prelude.{◌≡◌, ℕ, ◌+◌, ◌^◌, [], ◌∷◌, ◌++◌, slice_index, refl}
+use Rattle.std.specs.Prelude.{◌≡◌, ℕ, ◌+◌, ◌^◌, [], ◌∷◌, ◌++◌, slice_index, refl, Bool, false, ◌||◌, List, ◌==◌}
 use Rattle.word.specs.Ram.{word_at, little_endian, bytes_of}
 use Rattle.word.specs.Tables.{table}
 use Rattle.sysreg.specs.declared.regs.Control.{Control}
-use Rattle.walk.specs.Tag.{untagged}
-use Rattle.walk.specs.Size.{pa_size}
-use Rattle.walk.specs.Table.{range_of, params_of, table_next, leaf_permissions, leaf_translation, leaf_result, level_next, descaddr, lookup_next, walk_from}
-use Rattle.walk.specs.Table.{walk_range, table_walk}
-use Rattle.walk.specs.Walk.{walk_of}
-use Rattle.walk.specs.Fresh.{fresh_of}
+use Rattle.walk.specs.Regime.{untagged, pa_size}
+use Rattle.walk.specs.Table.{range_of, params_of, table_next, leaf_permissions, leaf_translation, leaf_result, level_next, descaddr, lookup_next}
+use Rattle.walk.specs.Table.{walk_from, walk_range, table_walk}
+use Rattle.walk.specs.Walk.{walk_of, fresh_of}
 use Rattle.sysreg.specs.declared.regs.Regime.TheVariants.{El1}
 use Rattle.walk.specs.declared.regime.Bank.{Bank}
-use Rattle.census.specs.Tally.{how_many}
-use Rattle.census.specs.Count.{census_of, census_at}
+use Rattle.census.specs.Count.{how_many, census_of, census_at}
 
 pub registers : ℕ → ℕ → Bank
 registers sctlr tcr = record { sctlr = sctlr; tcr = tcr; ttbr0 = 0x1000; ttbr1_el1 = 0; scr_el3 = 0; hcr_el2 = 0 }
@@ -78,3 +75,12 @@ pub worked-levels : WorkedLevels
 unfolding counted_at control census_of table how_many fresh_of walk_of table_walk walk_range walk_from lookup_next level_next leaf_result leaf_translation
     leaf_permissions table_next descaddr range_of params_of pa_size untagged word_at little_endian bytes_of
 worked-levels = refl
+
+-- Which permission bytes a leaf can have: fourteen, by the manual's tables of every attribute. So of the 64 places of permission bytes all others stay 0.
+abbrev pub among : ℕ → List ℕ → Bool
+among n [] = false
+among n (x ∷ xs) = n == x || among n xs
+
+-- EL0's rights in the low three bits, privileged ones in the high: r 1, w 2, x 4
+abbrev pub possible : List ℕ
+possible = 8 ∷ 9 ∷ 12 ∷ 13 ∷ 24 ∷ 27 ∷ 28 ∷ 31 ∷ 40 ∷ 41 ∷ 44 ∷ 45 ∷ 56 ∷ 60 ∷ []

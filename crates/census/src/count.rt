@@ -22,7 +22,7 @@ fn place_of(end: Fresh) -> usize
 }
 
 // Where the page is counted whose first address is va.
-#[tactic(auto, using(crate::proofs::Counting::sound))]
+#[tactic(auto, using(crate::proofs::Laws::sound))]
 fn place_at(s: Bank, regime: Regime, va: u64, base: u64, ram: &[u8]) -> usize
     ensures value { result ≡ place_at s regime (word_at base ram.now 8) va }
     ensures upper_bound { result < 129 }
@@ -32,7 +32,7 @@ fn place_at(s: Bank, regime: Regime, va: u64, base: u64, ram: &[u8]) -> usize
 
 // The counts of so many pages from the page of first, each by its own address: places 0 to 63 by status, 64 to 127 by
 // permission byte, 128 flat. Addresses wrap at 2^64.
-#[tactic(auto, using(crate::proofs::Counting::pages))]
+#[tactic(auto, using(crate::proofs::Laws::pages))]
 pub fn count(
     s: Bank,
     regime: Regime,

@@ -2,17 +2,16 @@
 ghost use Rattle.std.specs.Prelude.{◌≡◌, ℕ, ◌+◌, ◌*◌, ◌/◌, ◌<◌, Bool, true, false, is_some, Option};
 ghost use Rattle.word.specs.Bits.{wrap};
 ghost use Rattle.walk.specs.Regime.{stage1_on};
-ghost use Rattle.walk.specs.Flat.{flat_of};
+ghost use Rattle.walk.specs.Walk.{flat_of};
 ghost use Rattle.sysreg.specs.declared.regs.Regime.{Regime};
 ghost use Rattle.walk.specs.declared.regime.Bank.{Bank};
-ghost use Rattle.census.specs.Tally.{how_many, total};
-ghost use Rattle.census.specs.Count.{page_at, census_of};
-ghost use Rattle.census.specs.Laws.{faults_with, has_rights, is_flat, NoStatus, census_count, EachCensus};
-ghost use Rattle.census.specs.Rights.{among, possible};
-ghost use Rattle.census.specs.Cases.{WorkedPlaces, WorkedLevels};
+ghost use Rattle.census.specs.Count.{how_many, total, page_at, census_of, faults_with, has_rights, is_flat, NoStatus};
+ghost use Rattle.census.specs.Count.{census_count, EachCensus};
+ghost use Rattle.census.specs.Cases.{among, possible, WorkedPlaces, WorkedLevels};
 
 // What each place of a census is the number of: the pages that a fresh walk ends at a status, those whose leaf has a
 // permission byte, and those that are flat. It rules out a page that is counted under another place, or twice.
+#[tactic(auto, using(crate::proofs::Laws::counts))]
 pub fn meaning_of_counts()
     ensures status { EachCensus (λ count end pages. (status : ℕ) → status < 64
         → count status ≡ how_many (λ i. faults_with status (end i)) pages) }
@@ -37,6 +36,7 @@ pub fn sums_of_counts()
 // Which places stay 0: the statuses that no walk ends at, all but fourteen permission bytes, and with stage 1 off
 // every place but that of flat pages, those that the manual's rule gives an address, and status 0x00, the others. With
 // stage 1 on no page is flat.
+#[tactic(auto, using(crate::proofs::Laws::none), unfolding(walk::specs::Walk::fresh_of))]
 pub fn empty_places()
     ensures no_other_status { EachCensus (λ count end pages. (status : ℕ) → status < 64
         → NoStatus status → count status ≡ 0) }

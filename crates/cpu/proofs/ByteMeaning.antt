@@ -1,32 +1,26 @@
 -- What a load answers and a store leaves, byte by byte.
-use Rattle.std.specs.Prelude.{◌≡◌, ℕ, zero, suc, ◌+◌, ◌-◌, ◌*◌, ◌/◌, ◌%◌, ◌^◌, ◌<◌, ◌≤◌, true, false, List, length, ◌≢◌}
-use Rattle.std.specs.Prelude.{slice_index, Option, Ok}
+use Rattle.std.specs.Prelude.{◌≡◌, ℕ, zero, suc, ◌+◌, ◌-◌, ◌*◌, ◌/◌, ◌%◌, ◌^◌, ◌<◌, ◌≤◌, true, false, List, length, ◌≢◌, slice_index, Option, Ok}
 use Rattle.std.proofs.Math.Path.{ap}
 use Rattle.std.proofs.Common.{sym, ◌∙◌, mod-eq_of_lt, div-one, le-leb}
-use Rattle.std.proofs.Math.Nat.{mod-mod, zero-add}
+use Rattle.std.proofs.Math.Nat.{mod-mod}
 use native.Mathlib.Omega.{arith}
 use Rattle.word.specs.Bits.{wrap}
 use Rattle.word.specs.Ram.{within, word_at, stored}
 use Rattle.word.proofs.RamLaws.{within_low, within-high, digit-next, byte_of, written_byte}
 use Rattle.tlb.specs.declared.access.Kind.{Kind}
 use Rattle.tlb.specs.declared.access.Kind.TheVariants.{Read, Write}
-use Rattle.cpu.specs.Answers.{Placed, Verdict}
-use Rattle.cpu.specs.Place.{byte_at, verdict_of, bytes_before, address_in}
-use Rattle.cpu.proofs.PlaceLaws.{all-inside}
-use Rattle.cpu.specs.Bytes.{byte_in, split_value, split_stored, value_at, load_of, store_ram}
-use Rattle.cpu.proofs.BytesLaws.{stored-length, split-length}
-use Rattle.cpu.proofs.BytesLaws.{split-leaves}
-use Rattle.cpu.specs.Ends.{load_end, store_end, store_ram_end}
+use Rattle.cpu.specs.Bytes.{Placed, byte_at, verdict_of, address_in, byte_in, split_value, split_stored, value_at, load_of}
+use Rattle.cpu.specs.Bytes.{store_ram, load_end, store_end, store_ram_end}
+use Rattle.cpu.proofs.BytesLaws.{all-inside, stored-length, split-length, split-leaves}
 use Rattle.cpu.specs.Core.{after_access}
-use Rattle.cpu.specs.Translations.{located_of}
-use Rattle.cpu.specs.Memory.{stepped_now, located_now, translate_of, read_of, write_of, ram_after_write}
-use Rattle.cpu.specs.OpLaws.{on_now}
+use Rattle.cpu.specs.Memory.{located_of, stepped_now, located_now, translate_of, read_of, write_of, ram_after_write}
+use Rattle.cpu.specs.Asks.{on_now}
 use Rattle.cpu.proofs.OpLaws.{write-leaves}
 use Rattle.cpu.specs.declared.Core.{Core}
 use Rattle.cpu.specs.declared.{place.Pages.Pages, place.Place.Place}
 use Rattle.cpu.specs.declared.place.Place.TheVariants.{Whole, Split}
 use Rattle.cpu.proofs.OwnAddress.{Own, lies-own}
-use Rattle.cpu.specs.ByteMeaning.{LoadsOwnBytes, StoreLeavesOthers, StoresOwnBytes, LoadsFlatBytes, StoresFlatBytes}
+use Rattle.cpu.specs.OwnAddress.{LoadsOwnBytes, StoreLeavesOthers, StoresOwnBytes, LoadsFlatBytes, StoresFlatBytes}
 
 -- a byte of RAM
 small-in : (base : ℕ) (ram : List ℕ) (pa : ℕ) → ((k : ℕ) → slice_index ram k < 256) → byte_in base ram pa < 256
@@ -35,98 +29,80 @@ small-in base ram pa small = grind arith
 
 there-in : (base : ℕ) (ram : List ℕ) (pa : ℕ) → base ≤ pa → pa < base + length ram → byte_in base ram pa ≡ slice_index ram (pa - base)
 unfolding byte_in
-there-in base ram pa h k = rw (le-leb base pa h, le-leb (pa + 1) (base + length ram) (omega arith))
+there-in base ram pa h k = grind (arith, le-leb)
 
 stored-byte : (base : ℕ) (ram : List ℕ) (n pa v i : ℕ) → base ≤ pa → pa + n ≤ base + length ram → i < n
     → slice_index (stored base ram n pa v) (pa - base + i) ≡ v / 256 ^ i % 256
 unfolding stored
 stored-byte base ram n pa v i h k l = grind (arith, written_byte, le-leb)
 
--- byte i of a split value is the byte at byte i's place
-split-digit : (base : ℕ) (ram : List ℕ) (p : Pages) (s n i : ℕ) → ((k : ℕ) → slice_index ram k < 256) → i < n
-    → split_value base ram p s n / 256 ^ i % 256 ≡ byte_in base ram (byte_at p (s + i))
+-- the byte of a store of one, and one that none of a split store's is
+stored-here : (base : ℕ) (ram : List ℕ) (q v : ℕ) → within base (length ram) 1 q ≡ true → byte_in base (stored base ram 1 q v) q ≡ v % 256
+unfolding byte_in stored
+stored-here base ram q v w =
+    grind (arith, written_byte ram (q - base) 1 v 0, within_low, within-high, le-leb, stored-length base ram 1 q v, div-one)
+
+split-stays : (base : ℕ) (p : Pages) (v s n q : ℕ) (ram : List ℕ) → ((i : ℕ) → s ≤ i → i < s + n → q ≢ byte_at p i)
+    → byte_in base (split_stored base p v s n ram) q ≡ byte_in base ram q
+unfolding byte_in
+split-stays base p v s n q ram none = grind (arith, split-leaves base p v s n (q - base) ram, split-length base p v s n ram, within_low)
+
+-- the byte at byte i's place is byte i - s of a split value
+split-digit : (base : ℕ) (ram : List ℕ) (p : Pages) (s n i : ℕ) → ((k : ℕ) → slice_index ram k < 256) → s ≤ i → i < s + n
+    → split_value base ram p s n / 256 ^ (i - s) % 256 ≡ byte_in base ram (byte_at p i)
 unfolding split_value
-split-digit base ram p s zero i small h = absurd (omega arith)
-split-digit base ram p s (suc n) zero small h = grind (arith, small-in base ram (byte_at p s) small, div-one)
-split-digit base ram p s (suc n) (suc i) small h =
+split-digit base ram p s zero i small low h = absurd (omega arith)
+split-digit base ram p s (suc n) i small low h =
     grind (
       arith,
+      div-one,
       small-in base ram (byte_at p s) small,
-      digit-next (split_value base ram p (s + 1) n * 256 + byte_in base ram (byte_at p s)) i,
+      digit-next (split_value base ram p (s + 1) n * 256 + byte_in base ram (byte_at p s)) (i - (s + 1)),
       split-digit base ram p (s + 1) n i small,
     )
 
--- after a split store, the byte at byte i's place is byte i of the value, unless a later byte has the same place
-split-byte : (base : ℕ) (p : Pages) (v s n i : ℕ) (ram : List ℕ) → i < n → within base (length ram) 1 (byte_at p (s + i)) ≡ true
-    → ((j : ℕ) → i < j → j < n → byte_at p (s + j) ≢ byte_at p (s + i))
-    → byte_in base (split_stored base p v s n ram) (byte_at p (s + i)) ≡ v / 256 ^ i % 256
+-- after a split store, the byte at byte i's place is byte i - s of the value, unless a later byte has the same place
+split-byte : (base : ℕ) (p : Pages) (v s n i : ℕ) (ram : List ℕ) → s ≤ i → i < s + n → within base (length ram) 1 (byte_at p i) ≡ true
+    → ((j : ℕ) → i < j → j < s + n → byte_at p j ≢ byte_at p i)
+    → byte_in base (split_stored base p v s n ram) (byte_at p i) ≡ v / 256 ^ (i - s) % 256
 unfolding split_stored
-split-byte base p v s zero i ram h w last = absurd (omega arith)
-split-byte base p v s (suc n) zero ram h w last =
-    let z : s + 0 ≡ s = omega arith in
-    let q = byte_at p s in
-    let inside : within base (length ram) 1 q ≡ true = rw z at w in
-    let low : base ≤ q = within_low base (length ram) 1 q inside in
-    let high : q + 1 ≤ base + length ram = within-high base (length ram) 1 q inside in
-    let zq : q - base + 0 ≡ q - base = omega arith in
-    let one : List ℕ = stored base ram 1 q v in
-    let long : length one ≡ length ram = stored-length base ram 1 q v in
-    let all : length (split_stored base p (v / 256) (s + 1) n one) ≡ length one = split-length base p (v / 256) (s + 1) n one in
-    rw (z, div-one v)
-    (there-in base (split_stored base p (v / 256) (s + 1) n one) q low (omega arith)
-    ∙ split-leaves base p (v / 256) (s + 1) n (q - base) one
-    (λ j a b e. let x : s + (j - s) ≡ j = omega arith in last (j - s) (omega arith) (omega arith) (rw (x, z) (sym e ∙ omega arith)))
-    ∙ (rw (zq, div-one v) at (stored-byte base ram 1 q v 0 low high (omega arith))))
-split-byte base p v s (suc n) (suc i) ram h w last =
-    let e : s + suc i ≡ s + 1 + i = omega arith in
-    let long : length (stored base ram 1 (byte_at p s) v) ≡ length ram = stored-length base ram 1 (byte_at p s) v in
-    rw (e, digit-next v i)
-    (split-byte base p (v / 256) (s + 1) n i (stored base ram 1 (byte_at p s) v) (omega arith) (rw (long, ← e) w)
-    (λ j a b q. let x : s + suc j ≡ s + 1 + j = omega arith in last (suc j) (omega arith) (omega arith) (rw (x, e) q)))
+split-byte base p v s zero i ram low h w last = absurd (omega arith)
+split-byte base p v s (suc n) i ram low h w last =
+    let one : List ℕ = stored base ram 1 (byte_at p s) v in
+    grind (
+      arith,
+      div-one,
+      stored-here base ram (byte_at p s) v,
+      stored-length base ram 1 (byte_at p s) v,
+      split-stays base p (v / 256) (s + 1) n (byte_at p i) one,
+      digit-next v (i - (s + 1)),
+      split-byte base p (v / 256) (s + 1) n i one,
+    )
 
 -- BYTES OF AN ACCESS THAT LIES IN RAM
 
-wrap-at : (p : Pages) (i : ℕ) → wrap (byte_at p i) ≡ byte_at p i
-wrap-at p i = grind arith
-
-split-inside : (base len n i : ℕ) (p : Pages) → verdict_of base len (Split p) n ≡ Ok tt → i < n → within base len 1 (byte_at p i) ≡ true
-unfolding verdict_of
-split-inside base len n i p e h = all-inside base len p 0 n e i (omega arith) (omega arith)
-
 module _ (base : ℕ) (ram : List ℕ) (n i : ℕ) (window : base + length ram ≤ 2 ^ 64) (h : i < n) where
-  module _ (pa : ℕ) (e : verdict_of base (length ram) (Whole pa) n ≡ Ok tt) where
-    whole-low : base ≤ pa
-    unfolding verdict_of
-    whole-low = grind (arith, within_low)
-
-    whole-high : pa + n ≤ base + length ram
-    unfolding verdict_of
-    whole-high = grind (arith, within-high)
-
-    whole-at : wrap (pa + i) ≡ pa + i
-    unfolding verdict_of
-    whole-at = grind (arith, mod-eq_of_lt, within-high)
-
   in_window : (place : Place) → verdict_of base (length ram) place n ≡ Ok tt → within base (length ram) 1 (wrap (address_in place i)) ≡ true
   unfolding verdict_of
   in_window place e = grind (arith, le-leb, within_low, within-high, mod-eq_of_lt, mod-mod, all-inside)
 
+  wraps : (place : Place) → verdict_of base (length ram) place n ≡ Ok tt → wrap (address_in place i) ≡ address_in place i
+  unfolding verdict_of
+  wraps place e = grind (arith, mod-eq_of_lt, within-high, mod-mod)
+
   value-byte : ((k : ℕ) → slice_index ram k < 256) → (place : Place) → verdict_of base (length ram) place n ≡ Ok tt
       → value_at base ram place n / 256 ^ i % 256 ≡ byte_in base ram (wrap (address_in place i))
-  value-byte small place e = grind (arith, whole-low, whole-high, byte_of, there-in, whole-at, split-digit, zero-add, wrap-at)
+  unfolding verdict_of
+  value-byte small (Whole pa) e = grind (arith, wraps (Whole pa), within_low, within-high, byte_of, there-in)
+  value-byte small (Split p) e = grind (arith, wraps (Split p), split-digit base ram p 0 n i)
 
   store-digit : (v : ℕ) (place : Place) → verdict_of base (length ram) place n ≡ Ok tt
       → ((j : ℕ) → i < j → j < n → wrap (address_in place j) ≢ wrap (address_in place i))
       → byte_in base (store_ram base ram place n v) (wrap (address_in place i)) ≡ v / 256 ^ i % 256
-  unfolding store_ram
+  unfolding store_ram verdict_of
   store-digit v (Whole pa) e last =
-      grind (arith, whole-low pa e, whole-high pa e, whole-at pa e, stored-length base ram n pa v, there-in base (stored base ram n pa v) (pa + i), stored-byte base ram n pa v i)
-  store-digit v (Split p) e last =
-      let z : 0 + i ≡ i = zero-add i in
-      let all : bytes_before (verdict_of base (length ram) (Split p) n) n ≡ n = ap (λ (d : Verdict). bytes_before d n) e in
-      rw (all, wrap-at p i)
-      (rw z at (split-byte base p v 0 n i ram h (rw z (split-inside base (length ram) n i p e h))
-      (λ j a b q. last j a b (rw (wrap-at p j, wrap-at p i) (rw (zero-add j, z) at q)))))
+      grind (arith, wraps (Whole pa), within_low, within-high, stored-length base ram n pa v, there-in, stored-byte base ram n pa v i)
+  store-digit v (Split p) e last = grind (arith, wraps (Split p), mod-mod, all-inside base (length ram) p 0 n e i, split-byte base p v 0 n i ram)
 
 -- WHAT AN ANSWER SAYS OF ITS PLACE
 
@@ -201,14 +177,14 @@ load-flat c base ram va n pa off room small e inside =
     let d = flat-verdict base (length ram) n pa inside in (
       value_at base ram (Whole pa) n,
       rw (flat-placed c (word_at base ram 8) va n pa Read off e, d),
-      λ i h. value-byte base ram n i room h small (Whole pa) d ∙ ap (byte_in base ram) (whole-at base ram n i room h pa d),
+      λ i h. value-byte base ram n i room h small (Whole pa) d ∙ ap (byte_in base ram) (wraps base ram n i room h (Whole pa) d),
     )
 
 pub store-flat : StoresFlatBytes
 unfolding write_of store_end ram_after_write store_ram_end
 store-flat c base ram va n v pa off room e inside =
     let d = flat-verdict base (length ram) n pa inside in
-    let at : (i : ℕ) → i < n → wrap (pa + i) ≡ pa + i = λ i h. whole-at base ram n i room h pa d in
+    let at : (i : ℕ) → i < n → wrap (pa + i) ≡ pa + i = λ i h. wraps base ram n i room h (Whole pa) d in
     let place = flat-placed c (word_at base ram 8) va n pa Write off e in (
       rw (place, d),
       λ i h. rw (place) (ap (byte_in base (store_ram base ram (Whole pa) n v)) (sym (at i h))

@@ -1,200 +1,89 @@
 -- Of an access over two pages the lowest failing byte decides.
-use Rattle.std.proofs.Common.{rules}
-use Rattle.std.specs.Prelude.{if◌then◌else◌, nat_lt, Option, Some, None, Ok, Err, unwrap_or, ◌⊎◌, ◌≢◌}
-use Rattle.std.proofs.Common.{◌≡◌, ℕ, ◌+◌, ◌^◌, ◌<◌, ◌≤◌, Bool, true, false, length, sym, refl, ap, ◌∙◌, inl, inr, arith, ltb-true, ltb-false, lt-ltb, le-ltb}
+use Rattle.std.proofs.Common.{◌≡◌, ℕ, ◌+◌, ◌^◌, ◌<◌, ◌≤◌, Bool, true, false, length, refl, arith}
+use Rattle.std.proofs.Common.{lt-ltb, ◌%◌, List}
+use Rattle.std.specs.Prelude.{nat_lt, Option, Some, None, Ok, Err, unwrap_or}
 use Rattle.word.specs.Bits.{wrap}
-use Rattle.word.specs.Ram.{within}
+use Rattle.word.specs.Ram.{within, word_at}
 use Rattle.fault.specs.declared.Fault.{Fault}
-use Rattle.exception.specs.declared.kind.Stop.{Stop}
 use Rattle.tlb.specs.Answers.{Answer}
-use Rattle.cpu.specs.Answers.{Verdict, LoadAnswer, StoreAnswer, outside_at, second_fault_at}
-use Rattle.cpu.specs.Place.{in_page, next_page, byte_at, first_outside, first_part, verdict_of}
-use Rattle.cpu.specs.Bytes.{value_at, load_of, got_by}
-use Rattle.cpu.specs.Ends.{external, data_abort, failed_access, abort_after, loaded_from, store_end_by, load_end, store_end, store_ram_end}
-use Rattle.cpu.specs.Crossing.{byte_fails, byte_lies, LowestFails, NoneFails, LoadFails, StoreFails, NoneAborts, AbortsAt, LastStays, HalfMovesNothing}
-use Rattle.cpu.specs.Crossing.{OnePageStays, CrossingsStay, TheseChange}
-use Rattle.cpu.specs.EndMeaning.{stop_address}
+use Rattle.tlb.specs.declared.access.Kind.{Kind}
+use Rattle.tlb.specs.declared.access.Kind.TheVariants.{Read, Write}
+use Rattle.cpu.specs.Bytes.{Verdict, outside_at, in_page, byte_at, first_outside, first_part}
+use Rattle.cpu.specs.Bytes.{verdict_of, value_at, load_of, external, data_abort}
+use Rattle.cpu.specs.Bytes.{load_end, store_end, store_ram_end, Placed, placed_both}
+use Rattle.cpu.specs.Crossing.{byte_fails, byte_lies, LowestFails, NoneFails, LoadFails, StoreFails, NoneAborts, AbortsAt, LastStays}
+use Rattle.cpu.specs.Crossing.{HalfMovesNothing, OnePageStays, CrossingsStay, TheseChange, own_fails, own_lies}
+use Rattle.cpu.specs.Crossing.{Crosses, LowestOwn, LoadDecided, StoreDecided, NoneDecides}
 use Rattle.cpu.specs.declared.place.Pages.{Pages}
 use Rattle.cpu.specs.declared.place.Place.TheVariants.{Split}
-use Rattle.cpu.proofs.PlaceLaws.{lowest, all-inside}
+use Rattle.cpu.proofs.BytesLaws.{judged-at, judged-inside, first-out}
+use Rattle.cpu.specs.Says.{verdict_in}
+use Rattle.cpu.specs.Core.{after_access}
+use Rattle.cpu.specs.Memory.{located_of, located_now, read_of, write_of}
+use Rattle.cpu.specs.OwnAddress.{Ready}
+use Rattle.cpu.specs.declared.Core.{Core}
+use Rattle.cpu.proofs.OwnAddress.{first, second, own-page, offsets}
 
--- a byte that lies inside does not lie outside
-pub never : (b : Bool) → b ≡ true → b ≡ false → ⊥
-never b t f = let z : ◌≡◌ {A = ℕ} 1 0 = ap (λ (x : Bool). if x then 1 else 0) (sym t ∙ f) in omega arith
+abbrev pages : ℕ → ℕ → ℕ → Pages
+pages va pa pa2 = record { in_page = in_page va; pa = pa; pa2 = pa2 }
 
--- what a byte of a page that translates meets
-abbrev meets : Bool → Option Fault
-meets w = if w then None else Some external
+-- why the lowest failing byte fails: it lies outside RAM, or else its page's translation faults
+data Decided (judged : Verdict) (placed : Placed) (lies : Option ℕ) (va i : ℕ) (f : Fault) : Type 0 where
+  by-byte : (pa : ℕ) → judged ≡ Err (outside_at i pa) → lies ≡ Some pa → f ≡ external → Decided judged placed lies va i f
+  by-page : (part : Option ℕ) → judged ≡ Ok tt → placed ≡ Err (record { addr = wrap (va + i); fault = f; first = part }) → lies ≡ None
+      → Decided judged placed lies va i f
 
-meets-out : (w : Bool) (f : Fault) → meets w ≡ Some f → (w ≡ false) × (f ≡ external)
-meets-out w f e = grind arith
+module _ (base : ℕ) (ram : List ℕ) (va n i : ℕ) (f : Fault) (wide : va < 2 ^ 64) (cross : in_page va < n) where
+  abbrev Decides : Answer → Answer → Type 0
+  Decides a b = Decided (verdict_in base ram va n (placed_both va a b)) (placed_both va a b) (byte_lies va a b i) va i f
 
-meets-none : (w : Bool) → meets w ≡ None → w ≡ true
-meets-none w e = grind arith
-
--- WHICH BYTE IS JUDGED THE LOWEST
-
-module _ (base len : ℕ) (p : Pages) (n : ℕ) where
-  abbrev outside : ℕ → ℕ → Verdict
-  outside i pa = Err (outside_at i pa)
-
-  abbrev lies : ℕ → Bool
-  lies i = within base len 1 (byte_at p i)
-
-  pub judged-at : (i : ℕ) → i < n → lies i ≡ false → ((j : ℕ) → j < i → lies j ≡ true)
-      → first_outside base len p 0 n ≡ Err (outside_at i (byte_at p i))
-  judged-at i h out before = go (first_outside base len p 0 n) refl
+  decided : (a b : Answer) → LowestFails base (length ram) va a b n i f → Decides a b
+  unfolding verdict_of
+  decided (Err g) b l = by-page None refl (grind (arith, l.before 0)) (grind (arith, l.before 0))
+  decided (Ok pa) (Ok pa2) l =
+      by-byte (byte_at (pages va pa pa2) i) (grind (arith, judged-at base (length ram) (pages va pa pa2) 0 n i)) (grind arith) (grind arith)
+  decided (Ok pa) (Err g) l = half (nat_lt i (in_page va)) refl
     where
-      go : (d : Verdict) → first_outside base len p 0 n ≡ d → d ≡ Err (outside_at i (byte_at p i))
-      go (Ok x) e = absurd (grind (arith, all-inside base len p 0 n e i))
-      go (Err o) e = let l = lowest base len p 0 n o.index o.pa e in grind (arith, l, l.before i, before o.index)
+      half : (b : Bool) → nat_lt i (in_page va) ≡ b → Decides (Ok pa) (Err g)
+      half true e = by-byte (wrap (pa + i)) (grind (arith, judged-at base (length ram) (pages va pa 0) 0 (in_page va) i)) (grind arith) (grind arith)
+      half false e =
+          let at : i ≡ in_page va = grind (arith, l.before (in_page va)) in
+          by-page (Some pa) (grind (arith, judged-inside base (length ram) (pages va pa 0) 0 (in_page va))) (grind arith) (grind arith)
 
-  pub judged-inside : ((j : ℕ) → j < n → lies j ≡ true) → first_outside base len p 0 n ≡ Ok tt
-  judged-inside each = go (first_outside base len p 0 n) refl
-    where
-      go : (d : Verdict) → first_outside base len p 0 n ≡ d → d ≡ Ok tt
-      go (Ok x) e = refl
-      go (Err o) e = let l = lowest base len p 0 n o.index o.pa e in absurd (grind (arith, l, each o.index))
+  load-by : (a b : Answer) (last abort : ℕ) → Decides a b
+      → (load_end (placed_both va a b) last abort base ram va n).answer ≡ Err (data_abort (wrap (va + i)) false f)
+  unfolding load_end load_of verdict_of
+  load-by a b last abort d = grind arith
 
-module _ (base len va n : ℕ) where
-  -- THE FIRST PAGE FAULTS
-  first-fails : (g : Fault) (b : Answer) (i : ℕ) (f : Fault) → LowestFails base len va (Err g) b n i f → (i ≡ 0) × (f ≡ g)
-  first-fails g b i f l = search rules
+  store-by : (a b : Answer) (abort : ℕ) → Decides a b
+      → (store_end (placed_both va a b) abort base ram va n).answer ≡ Err (data_abort (wrap (va + i)) true f)
+  unfolding store_end verdict_of
+  store-by a b abort d = grind arith
 
-  -- BOTH TRANSLATE
-  module _ (pa pa2 : ℕ) where
-    abbrev pages : Pages
-    pages = record { in_page = in_page va; pa = pa; pa2 = pa2 }
-
-    both-meet : (i : ℕ) → byte_fails base len va (Ok pa) (Ok pa2) i ≡ meets (within base len 1 (byte_at pages i))
-    both-meet i = grind arith
-
-    both-lie : (i : ℕ) → byte_lies va (Ok pa) (Ok pa2) i ≡ Some (byte_at pages i)
-    both-lie i = grind arith
-
-    both-fail : (i : ℕ) (f : Fault) → LowestFails base len va (Ok pa) (Ok pa2) n i f
-        → (first_outside base len pages 0 n ≡ Err (outside_at i (byte_at pages i))) × (f ≡ external)
-    both-fail i f l =
-        let here = meets-out _ f (sym (both-meet i) ∙ l.here) in
-        (judged-at base len pages n i l.below here.0 (λ j h. meets-none _ (sym (both-meet j) ∙ l.before j h)), here.1)
-
-    none-fails : NoneFails base len va (Ok pa) (Ok pa2) n → first_outside base len pages 0 n ≡ Ok tt
-    none-fails l = grind (arith, judged-inside)
-
-  -- THE SECOND FAULTS
-  module _ (pa : ℕ) (g : Fault) where
-    abbrev half : Pages
-    half = record { in_page = in_page va; pa = pa; pa2 = 0 }
-
-    abbrev part : Verdict
-    part = first_part base len va (Some pa)
-
-    half-meets : (i : ℕ) → i < in_page va → byte_fails base len va (Ok pa) (Err g) i ≡ meets (within base len 1 (byte_at half i))
-    half-meets i h = rw (lt-ltb i (in_page va) h) refl
-
-    half-faults : (i : ℕ) → in_page va ≤ i → byte_fails base len va (Ok pa) (Err g) i ≡ Some g
-    half-faults i h = rw (le-ltb i (in_page va) h) refl
-
-    record HalfIn (i : ℕ) (f : Fault) : Type 0 where
-      pub before : i < in_page va
-      pub judged : part ≡ Err (outside_at i (wrap (pa + i)))
-      pub met : f ≡ external
-
-    record HalfPast (i : ℕ) (f : Fault) : Type 0 where
-      pub at : i ≡ in_page va
-      pub judged : part ≡ Ok tt
-      pub met : f ≡ g
-
-    half-fails : (i : ℕ) (f : Fault) → LowestFails base len va (Ok pa) (Err g) n i f → HalfIn i f ⊎ HalfPast i f
-    half-fails i f l = go (nat_lt i (in_page va)) refl
-      where
-        go : (x : Bool) → nat_lt i (in_page va) ≡ x → HalfIn i f ⊎ HalfPast i f
-        go true e =
-            let h : i < in_page va = ltb-true _ _ e in
-            let here = meets-out _ f (sym (half-meets i h) ∙ l.here) in
-            let judged = judged-at base len half (in_page va) i h here.0 (λ j k. meets-none _ (sym (half-meets j (omega arith)) ∙ l.before j k)) in
-            inl (record { before = h; judged = rw e at judged; met = here.1 })
-        go false e =
-            let h : in_page va ≤ i = ltb-false _ _ e in
-            inr (past h (nat_lt (in_page va) i) refl)
-          where
-            past : in_page va ≤ i → (y : Bool) → nat_lt (in_page va) i ≡ y → HalfPast i f
-            past h true y = absurd (grind (arith, half-faults, l.before (in_page va) (ltb-true _ _ y)))
-            past h false y =
-                let k : i ≤ in_page va = ltb-false _ _ y in
-                record {
-                  at = omega arith;
-                  judged = judged-inside base len half (in_page va) (λ j u. meets-none _ (sym (half-meets j u) ∙ l.before j (omega arith)));
-                  met = grind (arith, half-faults i h, l.here);
-                }
-
-    at-part : (i : ℕ) → i ≡ in_page va → next_page va ≡ wrap (va + i)
-    at-part i e = ap (λ (k : ℕ). wrap (va + k)) (sym e)
-
-    half-stops : (write : Bool) (i : ℕ) (f : Fault) → LowestFails base len va (Ok pa) (Err g) n i f
-        → failed_access part (second_fault_at (next_page va) pa g) va write ≡ data_abort (wrap (va + i)) write f
-    half-stops write i f l = grind (arith, half-fails, inl, inr, at-part)
-
-    half-aborts : (abort i : ℕ) (f : Fault) → LowestFails base len va (Ok pa) (Err g) n i f
-        → abort_after part abort ≡ unwrap_or (byte_lies va (Ok pa) (Err g) i) abort
-    half-aborts abort i f l = grind (arith, half-fails, inl, inr, lt-ltb, le-ltb)
+  aborts-by : (a b : Answer) (last abort : ℕ) → Decides a b
+      → ((load_end (placed_both va a b) last abort base ram va n).abort_pa ≡ unwrap_or (byte_lies va a b i) abort)
+      × ((store_end (placed_both va a b) abort base ram va n).abort_pa ≡ unwrap_or (byte_lies va a b i) abort)
+  unfolding load_end load_of store_end verdict_of
+  aborts-by a b last abort d = grind arith
 
 -- THE RULE
 
-first-stops : (va i : ℕ) (f g : Fault) (write : Bool) → va < 2 ^ 64 → (i ≡ 0) × (f ≡ g) → data_abort va write g ≡ data_abort (wrap (va + i)) write f
-first-stops va i f g write h e = grind arith
-
 pub load-fails : LoadFails
-unfolding load_end load_of verdict_of
-load-fails base ram va n (Err g) b last abort i f wide cross l = search (rules, first-stops, first-fails)
-load-fails base ram va n (Ok pa) (Err g) last abort i f wide cross l = search (rules, half-stops)
-load-fails base ram va n (Ok pa) (Ok pa2) last abort i f wide cross l =
-    let (judged, met) = both-fail base (length ram) va n pa pa2 i f l in
-    ap (λ (d : Verdict). (loaded_from (Split (pages base (length ram) va n pa pa2)) (got_by d (value_at base ram (Split (pages base (length ram) va n pa pa2)) n)) abort va).answer) judged
-    ∙ ap (λ (x : Fault). Err (data_abort (wrap (va + i)) false x)) (sym met)
+load-fails base ram va n a b last abort i f wide cross l = load-by base ram va n i f wide cross a b last abort (decided base ram va n i f wide cross a b l)
 
 pub store-fails : StoreFails
-unfolding store_end verdict_of
-store-fails base ram va n (Err g) b abort i f wide cross l = search (rules, first-stops, first-fails)
-store-fails base ram va n (Ok pa) (Err g) abort i f wide cross l = search (rules, half-stops)
-store-fails base ram va n (Ok pa) (Ok pa2) abort i f wide cross l =
-    let (judged, met) = both-fail base (length ram) va n pa pa2 i f l in
-    ap (λ (d : Verdict). (store_end_by d abort va).answer) judged ∙ ap (λ (x : Fault). Err (data_abort (wrap (va + i)) true x)) (sym met)
+store-fails base ram va n a b abort i f wide cross l = store-by base ram va n i f wide cross a b abort (decided base ram va n i f wide cross a b l)
 
 pub aborts-at : AbortsAt
-unfolding load_end load_of store_end verdict_of
-aborts-at base ram va n (Err g) b last abort i f wide cross l =
-    let at : i ≡ 0 = (first-fails base (length ram) va n g b i f l).0 in
-    let k : i < in_page va = omega arith in
-    let stays : abort ≡ unwrap_or (byte_lies va (Err g) b i) abort = rw (lt-ltb i (in_page va) k) refl in
-    (stays, stays)
-aborts-at base ram va n (Ok pa) (Err g) last abort i f wide cross l = search (rules, half-aborts)
-aborts-at base ram va n (Ok pa) (Ok pa2) last abort i f wide cross l =
-    let judged = (both-fail base (length ram) va n pa pa2 i f l).0 in
-    let lie = sym (ap (λ (x : Option ℕ). unwrap_or x abort) (both-lie base (length ram) va n pa pa2 i)) in (
-      ap (λ (d : Verdict). (loaded_from (Split (pages base (length ram) va n pa pa2)) (got_by d (value_at base ram (Split (pages base (length ram) va n pa pa2)) n)) abort va).abort_pa) judged ∙ lie,
-      ap (λ (d : Verdict). (store_end_by d abort va).abort_pa) judged ∙ lie,
-    )
-
--- a page that faults fails at its first byte
-none-first : (base len va n : ℕ) (g : Fault) (b : Answer) → in_page va < n → NoneFails base len va (Err g) b n → ⊥
-none-first base len va n g b cross l = grind arith
-
-none-second : (base len va n pa : ℕ) (g : Fault) → in_page va < n → NoneFails base len va (Ok pa) (Err g) n → ⊥
-none-second base len va n pa g cross l = grind arith
+aborts-at base ram va n a b last abort i f wide cross l = aborts-by base ram va n i f wide cross a b last abort (decided base ram va n i f wide cross a b l)
 
 pub none-aborts : NoneAborts
 unfolding load_end load_of store_end verdict_of
-none-aborts base ram va n (Err g) b last abort cross l = absurd (none-first base (length ram) va n g b cross l)
-none-aborts base ram va n (Ok pa) (Err g) last abort cross l = absurd (none-second base (length ram) va n pa g cross l)
+none-aborts base ram va n (Err g) b last abort cross l = absurd (grind (arith, l 0))
+none-aborts base ram va n (Ok pa) (Err g) last abort cross l = absurd (grind (arith, l (in_page va)))
 none-aborts base ram va n (Ok pa) (Ok pa2) last abort cross l =
-    let judged = none-fails base (length ram) va n pa pa2 l in
-    let place = Split (pages base (length ram) va n pa pa2) in (
-      (value_at base ram place n, ap (λ (d : Verdict). (loaded_from place (got_by d (value_at base ram place n)) abort va).answer) judged),
-      ap (λ (d : Verdict). (store_end_by d abort va).answer) judged,
-      ap (λ (d : Verdict). (loaded_from place (got_by d (value_at base ram place n)) abort va).abort_pa) judged,
-      ap (λ (d : Verdict). (store_end_by d abort va).abort_pa) judged,
-    )
+    let j : first_outside base (length ram) (pages va pa pa2) 0 n ≡ Ok tt = grind (arith, judged-inside base (length ram) (pages va pa pa2) 0 n) in
+    rw j ((value_at base ram (Split (pages va pa pa2)) n, refl), refl, refl, refl)
 
 pub last-stays : LastStays
 unfolding load_end load_of
@@ -210,43 +99,77 @@ pub one-page-stays : OnePageStays
 unfolding load_end store_end
 one-page-stays base ram va n h last abort = grind arith
 
+part-inside : (base len va pa : ℕ) → ((i : ℕ) → i < in_page va → within base len 1 (wrap (pa + i)) ≡ true) → first_part base len va (Some pa) ≡ Ok tt
+part-inside base len va pa inside = grind (arith, judged-inside base len (pages va pa 0) 0 (in_page va), lt-ltb)
+
 pub crossings-stay : CrossingsStay
 unfolding load_end store_end
-crossings-stay base ram va n h b last abort inside = grind (arith, judged-inside, lt-ltb)
-
--- a byte of the first page that lies outside is the lowest, or behind one that is
-part-judged : (base len va n pa i : ℕ) (g : Fault) → i < in_page va → within base len 1 (wrap (pa + i)) ≡ false
-    → (k : ℕ) × (k < in_page va) × ((q : ℕ) × (part base len va n pa g ≡ Err (outside_at k q)))
-part-judged base len va n pa i g h out = go (part base len va n pa g) refl
-  where
-    go : (d : Verdict) → part base len va n pa g ≡ d → (k : ℕ) × (k < in_page va) × ((q : ℕ) × (part base len va n pa g ≡ Err (outside_at k q)))
-    go (Ok x) e =
-        absurd (never _ (all-inside base len (half base len va n pa g) 0 (in_page va) e i (omega arith) (omega arith)) (rw (lt-ltb i (in_page va) h) out))
-    go (Err o) e =
-        let last : o.index < 0 + in_page va = (lowest base len (half base len va n pa g) 0 (in_page va) o.index o.pa e).last in
-        (o.index, omega arith, (o.pa, e))
-
--- what a data abort reports
-loaded_at : (a : ℕ) (w : Bool) (f : Fault) (s : Stop) → ◌≡◌ {A = LoadAnswer} (Err (data_abort a w f)) (Err s) → stop_address s ≡ Some a
-loaded_at a w f s e = let t : data_abort a w f ≡ s = cc in ap stop_address (sym t)
-
-stored_at : (a : ℕ) (w : Bool) (f : Fault) (s : Stop) → ◌≡◌ {A = StoreAnswer} (Err (data_abort a w f)) (Err s) → stop_address s ≡ Some a
-stored_at a w f s e = let t : data_abort a w f ≡ s = cc in ap stop_address (sym t)
-
-differ : (va k : ℕ) (x y : Stop) → va < 2 ^ 64 → k < in_page va → stop_address x ≡ Some (wrap (va + k)) → stop_address y ≡ Some (next_page va)
-    → stop_address x ≢ stop_address y
-differ va k x y wide below now before e = grind arith
+crossings-stay base ram va n a b last abort inside = grind (arith, part-inside)
 
 pub these-change : TheseChange
 unfolding load_end store_end
-these-change base ram va n pa i g last abort x y wide h out =
-    let (k, below, (q, judged)) = part-judged base (length ram) va n pa i g h out in (
-      λ now before.
-          differ va k x y wide below
-          (loaded_at _ false _ x (sym (ap (λ (d : Verdict). Err (failed_access d (second_fault_at (next_page va) pa g) va false)) judged) ∙ now))
-          (loaded_at _ false _ y before),
-      λ now before.
-          differ va k x y wide below
-          (stored_at _ true _ x (sym (ap (λ (d : Verdict). Err (failed_access d (second_fault_at (next_page va) pa g) va true)) judged) ∙ now))
-          (stored_at _ true _ y before),
-    )
+these-change base ram va n pa i f last abort x y wide h out = grind (arith, first-out base (length ram) (pages va pa 0) 0 (in_page va) i)
+
+-- The lowest failing byte decides, by each byte's own address.
+module _ (c : Core) (base : ℕ) (ram : List ℕ) (va n : ℕ) (kind : Kind) (ready : Ready c base ram va n kind) where
+  abbrev a : Answer
+  a = (first c base ram va n kind ready).answer
+
+  abbrev b : Answer
+  b = (second c base ram va n kind ready).answer
+
+  each-byte : (i : ℕ) → i < 8 → (own_fails c base ram va kind i ≡ byte_fails base (length ram) va a b i) × (own_lies c base ram va kind i ≡ byte_lies va a b i)
+  each-byte i h = grind (arith, own-page c base ram va n kind ready i, offsets c base ram va n kind ready)
+
+  below-n : (i : ℕ) → i < n → own_fails c base ram va kind i ≡ byte_fails base (length ram) va a b i
+  below-n i h = let few : n ≤ 8 = ready.bytes in (each-byte i (omega arith)).0
+
+  lowest-fails : (i : ℕ) (f : Fault) → LowestOwn c base ram va kind n i f → LowestFails base (length ram) va a b n i f
+  lowest-fails i f l =
+      record {
+        below = l.below;
+        here = rw (← below-n i l.below) l.here;
+        before = λ j h. let k : j < n = omega (arith, l.below) in rw (← below-n j k) (l.before j h);
+      }
+
+  none-fail : ((i : ℕ) → i < n → own_fails c base ram va kind i ≡ None) → NoneFails base (length ram) va a b n
+  none-fail l i h = rw (← below-n i h) (l i h)
+
+  -- it takes two pages, and both translations
+  cross : Crosses c va n → in_page va < n
+  cross x = let h : 4096 < va % 4096 + n = x.1 in omega arith
+
+  placed-both : Crosses c va n → (located_now c (word_at base ram 8) va n kind).placed ≡ placed_both va a b
+  unfolding located_now located_of
+  placed-both x = grind arith
+
+pub load-decided : LoadDecided
+unfolding read_of after_access
+load-decided c base ram va n i f ready x l =
+    let few : n ≤ 8 = ready.bytes in
+    let bound : i < n = l.below in
+    let low = lowest-fails c base ram va n Read ready i f l in
+    let two = cross c base ram va n Read ready x in
+    rw (placed-both c base ram va n Read ready x, (each-byte c base ram va n Read ready i (omega arith)).1)
+    (load-fails base ram va n _ _ _ _ i f ready.address two low, (aborts-at base ram va n _ _ c.last_pa c.abort_pa i f ready.address two low).0)
+
+pub store-decided : StoreDecided
+unfolding write_of after_access
+store-decided c base ram va n i f ready x l =
+    let few : n ≤ 8 = ready.bytes in
+    let bound : i < n = l.below in
+    let low = lowest-fails c base ram va n Write ready i f l in
+    let two = cross c base ram va n Write ready x in
+    rw (placed-both c base ram va n Write ready x, (each-byte c base ram va n Write ready i (omega arith)).1)
+    (store-fails base ram va n _ _ _ i f ready.address two low, (aborts-at base ram va n _ _ c.last_pa c.abort_pa i f ready.address two low).1)
+
+pub none-decides : NoneDecides
+unfolding read_of write_of after_access
+none-decides c base ram va n x = (
+  λ ready l.
+      rw (placed-both c base ram va n Read ready x)
+      (none-aborts base ram va n _ _ c.last_pa c.abort_pa (cross c base ram va n Read ready x) (none-fail c base ram va n Read ready l)).0,
+  λ ready l.
+      rw (placed-both c base ram va n Write ready x)
+      (none-aborts base ram va n _ _ c.last_pa c.abort_pa (cross c base ram va n Write ready x) (none-fail c base ram va n Write ready l)).1,
+)

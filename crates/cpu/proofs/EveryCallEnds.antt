@@ -1,40 +1,31 @@
 -- Every call ends as one of its ways.
-use Rattle.cpu.specs.Results.{Stored}
-use Rattle.std.specs.Prelude.{if◌then◌else◌, ◌≡◌, ℕ, zero, suc, ◌+◌, ◌≤◌, Bool, true, false, List, [], ◌∷◌, length, Option, Some, None, Ok, Err}
-use Rattle.std.proofs.Math.Path.{refl, ap, subst⁻¹}
-use Rattle.std.proofs.Common.{sym, ◌∙◌, arith}
-use Rattle.std.proofs.lemmas.Bool.{not-false}
-use Rattle.word.specs.Bits.{wrap, align_down}
-use Rattle.word.specs.Ram.{word_at, width_of, within}
-use Rattle.sysreg.specs.Encoding.{register_at}
-use Rattle.sysreg.specs.Write.{names, write_found, write_reg, WriteAnswer}
-use Rattle.sysreg.specs.declared.{regs.Control.Control, regs.SysRegs.SysRegs}
-use Rattle.sysreg.specs.declared.regs.Register.{Register}
-use Rattle.tlb.specs.Answers.{Answer}
-use Rattle.cpu.specs.Answers.{Placed, Verdict, LoadAnswer, StoreAnswer, FetchAnswer}
-use Rattle.tlb.specs.declared.access.Kind.TheVariants as Kind
-use Rattle.system.specs.declared.decode.SysOp.{SysOp}
-use Rattle.cpu.specs.Core.{reg_of}
-use Rattle.cpu.specs.Bytes.{value_at}
-use Rattle.cpu.specs.Says.{Said, value, done, fault, load_says, store_says, fetch_says, memory_says, access_says, verdict_in}
-use Rattle.cpu.specs.Says.{insn_says}
-use Rattle.cpu.proofs.Says.{load-says, store-says, fetch-says}
-use Rattle.cpu.specs.Memory.{translate_of, read_of, write_of, ram_after_write, fetch_of, fetch_pa_of, data_pa_of, located_now, fetch_stepped_now}
-use Rattle.cpu.specs.OpLaws.{store}
-use Rattle.cpu.proofs.OpLaws.{ram-length}
+use Rattle.std.specs.Prelude.{if◌then◌else◌, ◌≡◌, ℕ, zero, suc, ◌+◌, ◌≤◌, Bool, true, false, List, [], ◌∷◌}
+use Rattle.std.specs.Prelude.{slice_index}
+use Rattle.std.proofs.Math.Path.{refl}
+use Rattle.std.proofs.Common.{arith, rules, le-ltb, ltb}
+use Rattle.std.proofs.lemmas.List.{get_or-set_same}
+use Rattle.word.specs.Bits.{wrap}
+use Rattle.sysreg.specs.Write.{write_reg}
+use Rattle.tlb.proofs.Cells.{replicate-at}
+use Rattle.cpu.specs.Core.{reg_of, fresh_core, set_reg, after_access}
+use Rattle.cpu.specs.Bytes.{StoreAnswer, load_end, load_of, store_end, fetch_end, insn_of}
+use Rattle.cpu.specs.Says.{store_says}
+use Rattle.cpu.proofs.OpLaws.{ram-length, store-last}
+use Rattle.cpu.specs.Memory.{translate_of, read_of, write_of, ram_after_write, fetch_of, fetch_pa_of, data_pa_of}
+use Rattle.cpu.specs.Memory.{translate_access_of}
+use Rattle.cpu.specs.Says.{store}
 use Rattle.cpu.specs.declared.Core.{Core}
 use Rattle.cpu.specs.declared.{call.Call.Call}
-use Rattle.cpu.specs.Registers.{registered, written, after_register_write}
-use Rattle.cpu.specs.System.{on_stored, zero_of, zero_ram, sys_by, sys_ram_by, op_of, sys_of, sys_ram}
-use Rattle.cpu.specs.Check.{Row, checks_of, missed_of, is_width, known, kept}
-use Rattle.cpu.specs.Replies.{translation, loading, storing, fetching, reaching, registering}
-use Rattle.cpu.specs.Step.{load_by, store_by, store_ram_by, missed_by, run_of, ram_of, ram_after}
-use Rattle.cpu.specs.declared.call.Call.TheVariants.{Translate, DataPa, FetchPa, Load as LoadCall, Store as StoreCall, Fetch, System}
-use Rattle.cpu.specs.declared.call.Call.TheVariants.{Register as RegisterCall, Level, Mark, General, Abort, Census, Windows, Flip}
-use Rattle.word.specs.declared.ram.Width.{Width}
-use Rattle.sysreg.specs.declared.write.WriteError.TheVariants.{Undefined, NoRegister}
-use Rattle.cpu.specs.EveryCallEnds.{did, faulted, is-undefined, is-unimplemented, valued, unreached, stopped, wrote-ram, Ran, Wrote, outcome_of, writes}
-use Rattle.cpu.specs.EveryCallEnds.{says}
+use Rattle.cpu.specs.System.{after_register_write, zero_of, zero_ram, sys_of, sys_ram}
+use Rattle.cpu.specs.System.{applied_of, with_regs, set_level, set_mark, abort_of, with_par, at_of, tlbi_core}
+use Rattle.cpu.specs.Check.{Row, checks_of, missed_of, kept, loading, storing, fetching, registering}
+use Rattle.cpu.specs.Step.{missed_by, run_of, ram_of, ram_after, ends, step_of, looks}
+use Rattle.cpu.specs.EveryCallEnds.{did, faulted, is-undefined, is-unimplemented, valued, unreached, stopped, wrote-ram, Ran, Wrote, outcome_of}
+use Rattle.cpu.specs.EveryCallEnds.{writes, Ended, is-refused, has-run, OnlyLoadCallsSetLast, OtherCallsKeepAbort}
+use Rattle.cpu.specs.declared.call.Reply.TheVariants.{Refused}
+use Rattle.cpu.specs.Bare.{zeros}
+use Rattle.cpu.specs.Kept.{ReadsWhatIsWritten, OthersStay, LastIsWritten, ReadsZero, DropsWrites, NothingElse, RegisterRows, NeighbourRows}
+use Rattle.cpu.specs.Kept.{OnlyLoadsSetLast, TranslationsKeepAbort}
 
 -- A REFUSED CALL
 
@@ -54,155 +45,151 @@ pub all-passed : (level base len : ℕ) (call : Call) → missed_of level base l
 unfolding missed_of
 all-passed level base len call = grind arith
 
-only-done : (c d : Core) (ram : List ℕ) → Ran c ram d ram (says done)
-only-done c d ram = wrote-ram d ram done (did ram refl)
-
 -- stores, and the stores of a zeroing
 store_wrote : (c : Core) (base : ℕ) (ram : List ℕ) (va n v : ℕ)
     → Wrote ram (ram_after_write c base ram va n v) (store_says (write_of c base ram va n).answer)
-store_wrote c base ram va n v =
-    subst⁻¹ (Wrote ram (ram_after_write c base ram va n v)) (store-says c base ram va n) (go (located_now c (word_at base ram 8) va n Kind.Write).placed)
-  where
-    same : length (ram_after_write c base ram va n v) ≡ length ram
-    same = ram-length c base ram (store va n v)
+unfolding write_of store_end
+store_wrote c base ram va n v = search (rules, did, faulted, ram-length c base ram (store va n v))
 
-    memory : (d : Verdict) (s : Said) → Wrote ram (ram_after_write c base ram va n v) s → Wrote ram (ram_after_write c base ram va n v) (memory_says d va s)
-    memory (Ok x) s h = h
-    memory (Err out) s h = faulted _ _ _ same
-
-    go : (x : Placed) → Wrote ram (ram_after_write c base ram va n v) (access_says x (verdict_in base ram va n) va (λ p. done))
-    go (Err failed) = memory (verdict_in base ram va n (Err failed)) _ (faulted _ failed.addr failed.fault.fsc same)
-    go (Ok p) = memory (verdict_in base ram va n (Ok p)) _ (did _ same)
-
-wrote-later : (ram mid after : List ℕ) (s : Said) → length mid ≡ length ram → Wrote mid after s → Wrote ram after s
-wrote-later ram mid _ _ e (did after h) = did after (h ∙ e)
-wrote-later ram mid _ _ e (faulted after a f h) = faulted after a f (h ∙ e)
+wrote-then : (c : Core) (base : ℕ) (ram : List ℕ) (va n : ℕ) → Wrote ram (ram_after_write c base ram va 8 0) (store_says (write_of c base ram va 8).answer)
+    → Wrote (ram_after_write c base ram va 8 0) (zero_ram n (write_of c base ram va 8).core base (ram_after_write c base ram va 8 0) (wrap (va + 8)))
+    (store_says (zero_of n (write_of c base ram va 8).core base (ram_after_write c base ram va 8 0) (wrap (va + 8))).answer)
+    → Wrote ram (zero_ram (suc n) c base ram va) (store_says (zero_of (suc n) c base ram va).answer)
+unfolding zero_of zero_ram
+wrote-then c base ram va n = search (rules, did, faulted, ram-length)
 
 zero-wrote : (n : ℕ) (c : Core) (base : ℕ) (ram : List ℕ) (va : ℕ) → Wrote ram (zero_ram n c base ram va) (store_says (zero_of n c base ram va).answer)
 unfolding zero_of zero_ram
 zero-wrote zero c base ram va = did ram refl
 zero-wrote (suc n) c base ram va =
-    go (write_of c base ram va 8).answer (zero_ram n (write_of c base ram va 8).core base (ram_after_write c base ram va 8 0) (wrap (va + 8)))
-    (zero_of n (write_of c base ram va 8).core base (ram_after_write c base ram va 8 0) (wrap (va + 8)))
+    wrote-then c base ram va n (store_wrote c base ram va 8 0)
     (zero-wrote n (write_of c base ram va 8).core base (ram_after_write c base ram va 8 0) (wrap (va + 8)))
-  where
-    go : (a : StoreAnswer) (later : List ℕ) (t : Stored) → Wrote (ram_after_write c base ram va 8 0) later (store_says t.answer)
-        → Wrote ram (on_stored a later (ram_after_write c base ram va 8 0)) (store_says (on_stored a t (write_of c base ram va 8)).answer)
-    go (Ok x) later t h = wrote-later ram (ram_after_write c base ram va 8 0) _ _ (ram-length c base ram (store va 8 0)) h
-    go (Err s) later t h = store_wrote c base ram va 8 0
-
--- each answer as what it says
-loading-says : (a : LoadAnswer) → outcome_of (loading a) ≡ says (load_says a)
-loading-says a = grind arith
-
-storing-says : (a : StoreAnswer) → outcome_of (storing a) ≡ says (store_says a)
-storing-says a = grind arith
-
-fetching-says : (a : FetchAnswer) → outcome_of (fetching a) ≡ says (fetch_says a)
-fetching-says a = grind arith
-
--- a register write of a key that names a register is not refused
-code : WriteAnswer → ℕ
-code (Ok x) = 0
-code (Err Undefined) = 0
-code (Err NoRegister) = 1
-
-named-write : (k : Control) (s : SysRegs) (level v : ℕ) (f : Option Register) → names f ≡ true → code (write_found k s level f v).answer ≡ 0
-unfolding code
-named-write k s level v f h = grind arith
 
 module _ (c : Core) (base : ℕ) (ram : List ℕ) where
-  translated : (d : Core) (va : ℕ) (a : Answer) → Ran c ram d ram (outcome_of (translation va a))
-  translated d va (Ok pa) = valued d pa
-  translated d va (Err f) = stopped d va f.fsc
-
-  addressed : (d : Core) (a : Option ℕ) → Ran c ram d ram (outcome_of (reaching a))
-  addressed d (Some pa) = valued d pa
-  addressed d None = unreached d
-
   loaded : (va n : ℕ) → Ran c ram (read_of c base ram va n).core ram (outcome_of (loading (read_of c base ram va n).answer))
-  loaded va n =
-      subst⁻¹ (Ran c ram (read_of c base ram va n).core ram) (loading-says (read_of c base ram va n).answer ∙ ap says (load-says c base ram va n))
-      (go (located_now c (word_at base ram 8) va n Kind.Read).placed)
-    where
-      memory : (d : Verdict) (s : Said) → Ran c ram (read_of c base ram va n).core ram (says s)
-          → Ran c ram (read_of c base ram va n).core ram (says (memory_says d va s))
-      memory (Ok x) s h = h
-      memory (Err out) s h = stopped _ _ _
-
-      go : (x : Placed)
-          → Ran c ram (read_of c base ram va n).core ram (says (access_says x (verdict_in base ram va n) va (λ p. value (value_at base ram p n))))
-      go (Err failed) = memory (verdict_in base ram va n (Err failed)) _ (stopped _ failed.addr failed.fault.fsc)
-      go (Ok p) = memory (verdict_in base ram va n (Ok p)) _ (valued _ _)
+  unfolding read_of load_end load_of
+  loaded va n = search (rules, valued, stopped)
 
   stored : (d : Core) (a : StoreAnswer) (after : List ℕ) → Wrote ram after (store_says a) → Ran c ram d after (outcome_of (storing a))
-  stored d a after w = subst⁻¹ (Ran c ram d after) (storing-says a) (wrote-ram d after (store_says a) w)
+  stored d a after w = search (rules, wrote-ram)
 
   fetched : (va : ℕ) → Ran c ram (fetch_of c base ram va).core ram (outcome_of (fetching (fetch_of c base ram va).answer))
-  fetched va =
-      subst⁻¹ (Ran c ram (fetch_of c base ram va).core ram) (fetching-says (fetch_of c base ram va).answer ∙ ap says (fetch-says c base ram va))
-      (go (fetch_stepped_now c (word_at base ram 8) va).answer)
-    where
-      memory : (b : Bool) (v : ℕ) → Ran c ram (fetch_of c base ram va).core ram (says (if b then value v else fault va 0x10))
-      memory true v = valued _ v
-      memory false v = stopped _ va 0x10
-
-      go : (a : Answer) → Ran c ram (fetch_of c base ram va).core ram (says (insn_says base ram va a))
-      go (Err f) = stopped _ va f.fsc
-      go (Ok pa) = memory (within base (length ram) 4 pa) _
-
-  -- a system operation, by what its encoding names
-  system : (o : SysOp) (op1 crm op2 x : ℕ)
-      → Ran c ram (sys_by o c base ram op1 crm op2 x).core (sys_ram_by o c base ram x) (outcome_of (storing (sys_by o c base ram op1 crm op2 x).answer))
-  system (SysOp.At form) op1 crm op2 x = only-done c _ ram
-  system SysOp.Tlbi op1 crm op2 x = only-done c _ ram
-  system SysOp.Zva op1 crm op2 x =
-      stored (zero_of 8 c base ram (align_down x 6)).core (zero_of 8 c base ram (align_down x 6)).answer _ (zero-wrote 8 c base ram (align_down x 6))
-  system SysOp.Nothing op1 crm op2 x = only-done c c ram
-  system SysOp.Undefined op1 crm op2 x = is-undefined
-  system SysOp.Unimplemented op1 crm op2 x = is-unimplemented
+  unfolding fetch_of fetch_end insn_of
+  fetched va = search (rules, valued, stopped)
 
   registers : (key v : ℕ) → kept key ≡ true
       → Ran c ram (after_register_write c key v).core ram (outcome_of (registering (after_register_write c key v).answer))
-  unfolding after_register_write write_reg code
-  registers key v named = go (written c key v).answer refl
-    where
-      go : (a : WriteAnswer) → (written c key v).answer ≡ a
-          → Ran c ram (registered c (written c key v) a).core ram (outcome_of (registering (registered c (written c key v) a).answer))
-      go (Ok x) e = only-done c _ ram
-      go (Err Undefined) e = is-undefined
-      go (Err NoRegister) e =
-          absurd (let z : ◌≡◌ {A = ℕ} 1 0 = ap code (sym e) ∙ named-write c.control c.sys c.privilege.level v (register_at key) named in omega arith)
-
-  loads : (s : Option Width) (va : ℕ) → is_width s ≡ true → Ran c ram (load_by s c base ram va).core ram (outcome_of (load_by s c base ram va).reply)
-  loads s va h = grind (arith, loaded)
-
-  stores : (s : Option Width) (va v : ℕ) → is_width s ≡ true
-      → Ran c ram (store_by s c base ram va).core (store_ram_by s c base ram va v) (outcome_of (store_by s c base ram va).reply)
-  stores s va v h = grind (arith, stored, store_wrote)
+  unfolding after_register_write write_reg
+  registers key v named = search (rules, is-undefined, wrote-ram, did)
 
   -- a call that misses no check ends in a value, a fault, Undefined or Unimplemented, or is done
   pub ran : (call : Call) → missed_by c base ram call ≡ 0
       → Ran c ram (run_of c base ram call).core (ram_of c base ram call) (outcome_of (run_of c base ram call).reply)
-  unfolding run_of ram_of sys_of sys_ram
-  ran (Translate kind va) e = translated (translate_of c (word_at base ram 8) va kind).core va (translate_of c (word_at base ram 8) va kind).answer
-  ran (DataPa va) e = addressed (data_pa_of c (word_at base ram 8) va).core (data_pa_of c (word_at base ram 8) va).answer
-  ran (FetchPa va) e = addressed (fetch_pa_of c (word_at base ram 8) va).core (fetch_pa_of c (word_at base ram 8) va).answer
-  ran (LoadCall va size) e = loads (width_of size) va (not-false (known size) (all-passed c.privilege.level base (length ram) (LoadCall va size) e).1.1.0)
-  ran (StoreCall va size v) e = stores (width_of size) va v (not-false (known size)
-      (all-passed c.privilege.level base (length ram) (StoreCall va size v) e).1.1.0)
-  ran (Fetch va) e = fetched va
-  ran (System f) e = system (op_of c f.op1 f.crn f.crm f.op2) f.op1 f.crm f.op2 (reg_of c f.rt)
-  ran (RegisterCall key v) e = registers key v (not-false (kept key) (all-passed c.privilege.level base (length ram) (RegisterCall key v) e).1.0)
-  ran (Level level) e = only-done c _ ram
-  ran (Mark mark) e = only-done c _ ram
-  ran (General n v) e = only-done c _ ram
-  ran (Abort x) e = only-done c _ ram
-  ran (Census first pages) e = only-done c _ ram
-  ran Windows e = only-done c _ ram
-  ran (Flip kind user va) e = only-done c _ ram
+  unfolding run_of ram_of sys_of sys_ram missed_of
+  ran call e =
+      grind (
+        arith,
+        valued,
+        stopped,
+        unreached,
+        is-undefined,
+        is-unimplemented,
+        wrote-ram,
+        did,
+        loaded,
+        fetched,
+        stored,
+        store_wrote,
+        zero-wrote,
+        registers,
+      )
 
 module _ (c : Core) (base : ℕ) (ram : List ℕ) where
   pub quiet : (call : Call) → writes c call ≡ false → ram_after c base ram call ≡ ram
   unfolding ram_after ram_of sys_ram
   quiet call h = grind arith
+
+-- A call that misses a check is refused by that number, and nothing changes; every call ends.
+module _ (c : Core) (base : ℕ) (ram : List ℕ) (call : Call) (n : ℕ) (e : missed_by c base ram call ≡ suc n) where
+  pub refused : step_of c base ram call ≡ ends c (Refused (suc n))
+  unfolding step_of
+  refused = rw e
+
+  pub refused-ram : ram_after c base ram call ≡ ram
+  unfolding ram_after
+  refused-ram = rw e
+
+pub each_call_ends : (c : Core) (base : ℕ) (ram : List ℕ) (call : Call)
+    → Ended c ram (missed_by c base ram call) (step_of c base ram call).core (ram_after c base ram call) (outcome_of (step_of c base ram call).reply)
+unfolding step_of ram_after
+each_call_ends c base ram call = search (rules, has-run, is-refused, number-le c base ram call, ran c base ram call)
+
+-- A call that only looks moves nothing: neither cache and counters nor anything else of the core, nor RAM.
+module _ (c : Core) (base : ℕ) (ram : List ℕ) where
+  pub looking-core : (call : Call) → looks call ≡ true → (step_of c base ram call).core ≡ c
+  unfolding step_of run_of
+  looking-core call h = grind arith
+
+  pub looking-ram : (call : Call) → looks call ≡ true → ram_after c base ram call ≡ ram
+  unfolding ram_after ram_of
+  looking-ram call h = grind arith
+
+-- What the core keeps: general registers, `last_pa` and `abort_pa`.
+pub reads-what-is-written : ReadsWhatIsWritten
+unfolding reg_of set_reg
+reads-what-is-written c n v l h = grind (arith, get_or-set_same)
+
+pub others-stay : OthersStay
+unfolding reg_of set_reg
+others-stay c n m v h = search rules
+
+pub last-is-written : LastIsWritten
+unfolding reg_of set_reg
+last-is-written c v l = grind (arith, get_or-set_same)
+
+pub reads-zero : ReadsZero
+unfolding reg_of
+reads-zero c n h = grind arith
+
+pub drops-writes : DropsWrites
+unfolding set_reg
+drops-writes c n v h = rw (le-ltb n 31 h) refl
+
+pub nothing-else : NothingElse
+unfolding set_reg
+nothing-else c n v = search rules
+
+pub register-rows : RegisterRows
+unfolding reg_of set_reg fresh_core zeros
+register-rows = refl
+
+pub neighbour-rows : NeighbourRows
+unfolding reg_of set_reg fresh_core zeros
+neighbour-rows = refl
+
+pub fresh-general : (n : ℕ) → reg_of fresh_core n ≡ 0
+unfolding reg_of fresh_core zeros
+fresh-general n = go (ltb n 31)
+  where
+    go : (a : Bool) → (if a then slice_index zeros n else 0) ≡ 0
+    go true = replicate-at 0 31 n
+    go false = refl
+
+-- OPERATIONS
+
+pub only-loads-set-last : OnlyLoadsSetLast
+unfolding translate_of translate_access_of write_of fetch_of fetch_pa_of data_pa_of after_access
+only-loads-set-last c base ram q h = grind arith
+
+pub translations-keep-abort : TranslationsKeepAbort
+unfolding translate_of translate_access_of fetch_pa_of data_pa_of after_access
+translations-keep-abort c base ram q h = grind arith
+
+-- Which calls set `last_pa` and `abort_pa`.
+pub only-load-calls-set-last : OnlyLoadCallsSetLast
+unfolding step_of run_of translate_of fetch_of fetch_pa_of data_pa_of after_access sys_of set_level set_mark set_reg abort_of at_of with_par tlbi_core after_register_write applied_of with_regs zero_of
+only-load-calls-set-last c base ram call h = grind (arith, store-last)
+
+pub other-calls-keep-abort : OtherCallsKeepAbort
+unfolding step_of run_of translate_of fetch_pa_of data_pa_of after_access sys_of set_level set_mark set_reg abort_of at_of with_par tlbi_core after_register_write applied_of with_regs
+other-calls-keep-abort c base ram call h = grind arith

@@ -1,47 +1,60 @@
--- How many descriptors an access, a zeroing and a call read.
-use Rattle.std.proofs.Common.{rules}
-use Rattle.std.specs.Prelude.{◌≡◌, ℕ, zero, suc, ◌+◌, ◌*◌, ◌/◌, ◌%◌, ◌^◌, ◌<◌, ◌≤◌, ◌==◌, Bool, true, false, List, length, Option}
-use Rattle.std.specs.Prelude.{Ok, Err}
-use Rattle.std.proofs.Common.{refl, ap, ◌∙◌, le_trans, mod-eq_of_lt, arith}
-use borrow.Author.Tests.{eq-eqb}
+-- What an access reads, by its one translation or its two.
+use Rattle.std.proofs.Common.{arith, ◌≡◌, rules, refl, ap, ◌∙◌, le_trans, mod-eq_of_lt}
+use Rattle.std.specs.Prelude.{ℕ, true, false, Bool, Option, Ok, Err, zero, suc, ◌+◌, ◌*◌, ◌/◌, ◌%◌, ◌^◌, ◌<◌, ◌≤◌, ◌==◌, List, length}
+use Rattle.fault.specs.declared.Fault.{Fault}
+use Rattle.tlb.proofs.Asks.{onward-same}
+use Rattle.tlb.specs.declared.{access.Kind.Kind, work.Work.Work, access.Privilege.Privilege, hint.Hint.Hint, Tlb.Tlb}
 use Rattle.word.specs.Bits.{wrap}
 use Rattle.word.specs.Ram.{word_at}
-use Rattle.sysreg.specs.Regs.{regime_of}
-use Rattle.walk.specs.Fetches.{fetches_of, fresh_reads}
-use Rattle.walk.specs.Regime.{bank_of, stage1_on}
-use Rattle.walk.proofs.FetchLaws.{few-fetches}
+use Rattle.walk.specs.Walk.{fetches_of, fresh_reads}
+use Rattle.walk.specs.Regime.{stage1_on}
+use Rattle.walk.proofs.Loop.{few-fetches}
 use Rattle.walk.specs.declared.regime.Bank.{Bank}
 use Rattle.sysreg.specs.declared.regs.Regime.{Regime}
 use Rattle.tlb.specs.Answers.{Answer}
 use Rattle.tlb.specs.Asks.{onward, works}
-use Rattle.tlb.specs.Entry.{slot_of}
-use Rattle.tlb.specs.Hint.{data_slot, hint_key, on_page}
+use Rattle.tlb.specs.Tlb.{slot_of, data_slot, hint_key, on_page, entry_at, hint_at, get_of}
 use Rattle.tlb.specs.Live.{WellFormed}
 use Rattle.tlb.specs.Model.{Access}
-use Rattle.tlb.specs.Tlb.{entry_at, hint_at, get_of}
-use Rattle.tlb.specs.Translate.{access_of, tag_in, tlb_after}
-use Rattle.tlb.specs.Work.{no_work, read_more, work_tried, work_in}
-use Rattle.tlb.proofs.Asks.{onward-same}
+use Rattle.tlb.specs.Translate.{access_of, tag_in, tlb_after, no_work, work_tried, work_in}
 use Rattle.tlb.proofs.Works.{nothing-read}
-use Rattle.tlb.specs.declared.{access.Kind.Kind, access.Privilege.Privilege, hint.Hint.Hint, work.Work.Work, Tlb.Tlb}
 use Rattle.tlb.specs.declared.access.Kind.TheVariants.{Write}
-use Rattle.cpu.specs.Answers.{StoreAnswer}
+use Rattle.system.specs.declared.{decode.AtForm.AtForm}
+use Rattle.cpu.specs.Core.{after_access, bank_now, Answered}
+use Rattle.cpu.specs.Memory.{stepped_now, translate_of, translate_in, write_of, ram_after_write}
+use Rattle.cpu.specs.Asks.{on_now}
+use Rattle.cpu.specs.Says.{store as storing}
+use Rattle.cpu.specs.Bytes.{next_page, crosses}
+use Rattle.cpu.specs.Work.{translate_work, access_work, fetch_work, write_work, zero_work, at_work, sys_work, run_work, step_work}
+use Rattle.cpu.specs.declared.Core.{Core}
 use Rattle.cpu.specs.Asks.{access_at, asks_by}
 use Rattle.cpu.specs.Bare.{Bare}
-use Rattle.cpu.specs.Core.{bank_now}
-use Rattle.cpu.specs.Memory.{translate_of, write_of, ram_after_write}
-use Rattle.cpu.specs.OpLaws.{on_now, store as storing}
-use Rattle.cpu.specs.Place.{next_page, crosses}
-use Rattle.cpu.specs.Reads.{sum_read, SumsReads, FewReads, ZeroingFew, ZeroingByFirst, ZeroingFour}
-use Rattle.cpu.specs.System.{on_stored}
-use Rattle.cpu.specs.Work.{translate_work, fetch_work, access_work, write_work, zero_work}
-use Rattle.cpu.specs.declared.Core.{Core}
-use Rattle.cpu.proofs.AccessWork.{one-work}
+use Rattle.cpu.specs.Reads.{sum_read, SumsReads, FewReads, ZeroingFew, ZeroingByFirst, ZeroingFour, AtReads, OthersReadNothing, RefusedReadNothing}
+use Rattle.cpu.specs.Reads.{CallsReadFew}
 use Rattle.cpu.proofs.OpLaws.{kept}
-use Rattle.cpu.proofs.PageGiven.{Gives, by-its-hint, by-its-entry, by_itself, gives-page}
+use Rattle.cpu.proofs.PageLaws.{Gives, by-its-hint, by-its-entry, by_itself, gives-page}
 use Rattle.cpu.proofs.ZeroLaws.{one-page-only, one-done}
 use Rattle.cpu.proofs.ZeroMeaning.{again, begins}
+use borrow.Author.Tests.{eq-eqb}
 
+module _ (c : Core) (memory : ℕ → Option ℕ) (va n : ℕ) (kind : Kind) (w : Work) where
+  -- where the first translation faults it is the only one
+  pub first_work : (f : Fault) → (translate_of c memory va kind).answer ≡ Err f → translate_work c memory va kind w ≡ access_work c memory va n kind w
+  unfolding translate_of stepped_now translate_in translate_work access_work
+  first_work f e = grind arith
+
+  pub one-work : crosses (on_now c) va n ≡ false → access_work c memory va n kind w ≡ translate_work c memory va kind w
+  unfolding translate_work access_work
+  one-work e = grind (arith, onward-same)
+
+  -- where it does not, and the access crosses, the next page's follows; of the code's values
+  pub second-work : (r : Answered Answer) (v u : Work) (pa next m : ℕ) (on k : Bool) → r ≡ translate_of c memory va kind → v ≡ translate_work c memory va kind w
+      → r.answer ≡ Ok pa → on ≡ on_now c → m ≡ n → k ≡ crosses on va m → k ≡ true → next ≡ next_page va
+      → u ≡ translate_work r.core memory next kind v → u ≡ access_work c memory va n kind w
+  unfolding translate_of stepped_now translate_in translate_work access_work after_access
+  second-work r v u pa next m on k er ev e eo em ek k1 en eu = grind (arith, onward-same)
+
+-- How many descriptors an access, a zeroing and a call read.
 pub walk-few : (s : Bank) (r : Regime) (va : ℕ) (memory : ℕ → Option ℕ) → length (fetches_of s r va memory) ≤ 4
 walk-few s r va memory = grind (arith, le_trans, few-fetches)
 
@@ -53,12 +66,6 @@ fresh-few s r va memory = grind (arith, walk-few)
 pub fresh-none : (s : Bank) (r : Regime) (va : ℕ) (memory : ℕ → Option ℕ) → stage1_on s r ≡ false → fresh_reads s r va memory ≡ 0
 unfolding fresh_reads
 fresh-none s r va memory e = rw e
-
-pub access-few : (s : Bank) (privilege : Privilege) (memory : ℕ → Option ℕ) (kind : Kind) (va : ℕ) → (access_at s privilege memory kind va).reads ≤ 4
-access-few s privilege memory kind va = walk-few _ _ _ memory
-
-pub more-few : (n : ℕ) (w : Work) → (read_more n w).reads ≤ w.reads + n
-more-few n w = omega arith
 
 -- one translation, by a hint or not: no more than its walk has, and what it reads alone is added
 module _ (a : Access) (t : Tlb) (w : Work) where
@@ -75,20 +82,17 @@ sum-one x v = grind arith
 sum-two : (x y : Answer) (v u : Work) (m : ℕ) → u.reads ≡ v.reads + m → (onward x (onward y u u) v).reads ≡ v.reads + onward x (m + onward y 0 0) 0
 sum-two x y v u m e = grind arith
 
-two-few : (x y : Answer) (v u : Work) (n : ℕ) → v.reads ≤ n → u.reads ≤ n → (onward x (onward y u u) v).reads ≤ n
-two-few x y v u n f g = grind arith
-
 module _ (c : Core) (memory : ℕ → Option ℕ) (va : ℕ) (kind : Kind) where
   abbrev access : Kind → ℕ → Access
   access = access_at (bank_now c) c.privilege memory
 
   pub translation-few : (w : Work) → (translate_work c memory va kind w).reads ≤ w.reads + 4
   unfolding translate_work
-  translation-few w = search (rules, le_trans, tried-few, access-few)
+  translation-few w = search (rules, le_trans, tried-few, walk-few)
 
   pub fetch-few : (w : Work) → (fetch_work c memory va w).reads ≤ w.reads + 4
   unfolding fetch_work
-  fetch-few w = search (rules, le_trans, tried-few, access-few)
+  fetch-few w = search (rules, le_trans, tried-few, walk-few)
 
   pub one-page-few : (n : ℕ) (w : Work) → crosses (on_now c) va n ≡ false → (access_work c memory va n kind w).reads ≤ w.reads + 4
   one-page-few n w e = rw (one-work c memory va n kind w e) (translation-few w)
@@ -97,23 +101,17 @@ module _ (c : Core) (memory : ℕ → Option ℕ) (va : ℕ) (kind : Kind) where
   abbrev first : Work
   first = work_in (access kind va) c.tlb no_work
 
-  abbrev after : Tlb
-  after = tlb_after (access kind va) c.tlb
-
   abbrev second : Work
-  second = work_in (access kind (next_page va)) after first
+  second = work_in (access kind (next_page va)) (tlb_after (access kind va) c.tlb) first
 
-  first-few : first.reads ≤ 4
-  first-few = search (rules, le_trans, tried-few, access-few)
+  both-few : (first.reads ≤ 4) × (second.reads ≤ 8)
+  both-few = search (rules, le_trans, tried-few, walk-few)
 
-  second-few : second.reads ≤ 8
-  second-few = search (rules, le_trans, tried-few, access-few)
-
-  second-adds : second.reads ≡ first.reads + (work_in (access kind (next_page va)) after no_work).reads
-  second-adds = search (rules, tried-adds, access-few, le_trans, tried-few)
+  second-adds : second.reads ≡ first.reads + (work_in (access kind (next_page va)) (tlb_after (access kind va) c.tlb) no_work).reads
+  second-adds = search (rules, tried-adds, walk-few, le_trans, tried-few)
 
   asked-few : (b : Bool) → (works access (asks_by b va kind) c.tlb no_work).reads ≤ 8
-  asked-few b = grind (arith, two-few, first-few, second-few, onward-same)
+  asked-few b = grind (arith, both-few, onward-same)
 
   asked-sum : (b : Bool) → (works access (asks_by b va kind) c.tlb no_work).reads ≡ sum_read access (asks_by b va kind) c.tlb
   asked-sum b = grind (arith, sum-two, second-adds, sum-one)
@@ -152,53 +150,37 @@ module _ (c : Core) (base va pa : ℕ) (line : va % 64 ≡ 0) (room : va + 64 �
       → Gives (bank_now c) c.privilege Write va pa d.tlb → write_work d base ram a 8 w ≡ w
   unfolding translate_work
   store-given d ram a ew ec same even g =
-      one-work d (word_at base ram 8) a 8 Write w (one-page-only d base ram a even (on_now d))
-      ∙ (λ i. work_in (access_of (bank_of (ec i) (regime_of (ew i).level)) (ew i) a Write (word_at base ram 8)) d.tlb w)
-      ∙ given-reads (bank_now c) c.privilege Write (word_at base ram 8) a pa d.tlb w (gives-page (bank_now c) c.privilege Write a same g)
+      rw (one-work d (word_at base ram 8) a 8 Write w (one-page-only d base ram a even (on_now d)), ew, ec)
+      (given-reads (bank_now c) c.privilege Write (word_at base ram 8) a pa d.tlb w (gives-page (bank_now c) c.privilege Write a same g))
 
-  -- n stores from an address, after the one at a
-  abbrev stores_after : Core → List ℕ → ℕ → ℕ → ℕ → Work
-  stores_after d ram a n next = zero_work n (write_of d base ram a 8).core base (ram_after_write d base ram a 8 0) next w
+  one-more : (n : ℕ) (d : Core) (ram : List ℕ) (a : ℕ) → write_work d base ram a 8 w ≡ w
+      → zero_work n (write_of d base ram a 8).core base (ram_after_write d base ram a 8 0) (wrap (a + 8)) w ≡ w → zero_work (suc n) d base ram a w ≡ w
+  unfolding zero_work
+  one-more n d ram a one later = grind arith
 
   pub steady : (n k : ℕ) (d : Core) (ram : List ℕ) → k + n ≤ 8 → d.privilege ≡ c.privilege → d.control ≡ c.control
       → Gives (bank_now c) c.privilege Write va pa d.tlb → zero_work n d base ram (wrap (va + 8 * k)) w ≡ w
   unfolding zero_work
   steady zero k d ram h ew ec g = refl
   steady (suc n) k d ram h ew ec g =
-      let q = again c d base ram va pa (va + 8 * k) ew ec g (omega arith) (omega arith) in
+      let here : wrap (va + 8 * k) ≡ va + 8 * k = mod-eq_of_lt (omega arith) in
+      let next : va + 8 * k + 8 ≡ va + 8 * suc k = omega arith in
       let b = kept d base ram (storing (va + 8 * k) 8 0) in
-      ap (λ (x : ℕ). zero_work (suc n) d base ram x w) here
-      ∙ rw none (go (write_of d base ram (va + 8 * k) 8).answer
-      (steady n (suc k) (write_of d base ram (va + 8 * k) 8).core (ram_after_write d base ram (va + 8 * k) 8 0) (omega arith)
-      (ap (λ (x : Bare). x.privilege) b ∙ ew) (ap (λ (x : Bare). x.control) b ∙ ec) q.1))
-    where
-      here : wrap (va + 8 * k) ≡ va + 8 * k
-      here = mod-eq_of_lt (omega arith)
-
-      none : write_work d base ram (va + 8 * k) 8 w ≡ w
-      none = store-given d ram (va + 8 * k) ew ec (omega arith) (omega arith) g
-
-      next : wrap (va + 8 * k + 8) ≡ wrap (va + 8 * suc k)
-      next = ap wrap (omega arith)
-
-      go : (x : StoreAnswer) → stores_after d ram (va + 8 * k) n (wrap (va + 8 * suc k)) ≡ w
-          → on_stored x (stores_after d ram (va + 8 * k) n (wrap (va + 8 * k + 8))) w ≡ w
-      go (Err s) ih = refl
-      go (Ok x) ih = rw next ih
+      let q = again c d base ram va pa (va + 8 * k) ew ec g (omega arith) (omega arith) in
+      rw here
+      (one-more n d ram (va + 8 * k) (store-given d ram (va + 8 * k) ew ec (omega arith) (omega arith) g)
+      (rw next (steady n (suc k) (write_of d base ram (va + 8 * k) 8).core (ram_after_write d base ram (va + 8 * k) 8 0) (omega arith)
+      (ap (λ (x : Bare). x.privilege) b ∙ ew) (ap (λ (x : Bare). x.control) b ∙ ec) q.1)))
 
 -- a zeroing of a line reads what its first store does
 module _ (c : Core) (base : ℕ) (ram : List ℕ) (va : ℕ) (w : Work) (well : WellFormed c.tlb) (line : va % 64 ≡ 0) (room : va + 64 ≤ 2 ^ 64) where
-  abbrev first_store : Work
-  first_store = write_work c base ram va 8 w
-
-  by-first : zero_work 8 c base ram va w ≡ first_store
+  by-first : zero_work 8 c base ram va w ≡ write_work c base ram va 8 w
   unfolding zero_work
   by-first =
-      let one : va + 8 * 1 ≡ va + 8 = omega arith in
       let b = kept c base ram (storing va 8 0) in
       let rest = λ (pa : ℕ) (e : (translate_of c (word_at base ram 8) va Write).answer ≡ Ok pa).
-      rw one at (steady c base va pa line room first_store 7 1 (write_of c base ram va 8).core (ram_after_write c base ram va 8 0) (omega arith)
-      (ap (λ (z : Bare). z.privilege) b) (ap (λ (z : Bare). z.control) b) (begins c base ram va pa well line room e)) in
+      steady c base va pa line room (write_work c base ram va 8 w) 7 1 (write_of c base ram va 8).core (ram_after_write c base ram va 8 0) (omega arith)
+      (ap (λ (z : Bare). z.privilege) b) (ap (λ (z : Bare). z.control) b) (begins c base ram va pa well line room e) in
       grind (arith, rest, one-done c base ram va (omega arith))
 
 pub zeroing-by-first : ZeroingByFirst
@@ -206,3 +188,25 @@ zeroing-by-first c base ram x w well small = grind (arith, by-first)
 
 pub zeroing-four : ZeroingFour
 zeroing-four c base ram x well small = grind (arith, zeroing-by-first, one-page-few, one-page-only)
+
+-- How many descriptors a call reads.
+module _ (c : Core) (base : ℕ) (ram : List ℕ) where
+  pub at-few : (form : AtForm) (va : ℕ) → (at_work c (word_at base ram 8) form va no_work).reads ≤ 4
+  unfolding at_work
+  at-few form va = grind (arith, fresh-few)
+
+pub calls-read-few : CallsReadFew
+unfolding step_work run_work sys_work
+calls-read-few c base ram call = grind (arith, zeroing-few, le_trans, zeroing-four, translation-few, fetch-few, eight-reads, at-few)
+
+pub others-read-nothing : OthersReadNothing
+unfolding step_work run_work sys_work
+others-read-nothing c base ram call w e = grind arith
+
+pub refused-read-nothing : RefusedReadNothing
+unfolding step_work
+refused-read-nothing c base ram call w n e = rw e
+
+pub at-reads : AtReads
+unfolding step_work run_work sys_work at_work
+at-reads c base ram e form m o = grind (arith, fresh-few, fresh-none)

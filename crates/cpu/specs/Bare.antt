@@ -37,8 +37,7 @@ fresh_bare =
 
 -- the level and the mark
 abbrev pub with_privilege : Bare → ℕ → Bool → Bare
-with_privilege b level mark =
-    record b { privilege = record { level = level; unprivileged = mark } }
+with_privilege b level mark = record b { privilege = record { level = level; unprivileged = mark } }
 
 -- general registers 0 to 30 are kept; 31 reads as zero and drops what is written
 abbrev pub reg_in : List ℕ → ℕ → ℕ
@@ -48,8 +47,7 @@ abbrev pub reg_set : List ℕ → ℕ → ℕ → List ℕ
 reg_set x n v = if nat_lt n 31 then slice_set x n v else x
 
 abbrev pub with_general : Bare → ℕ → ℕ → Bare
-with_general b n v =
-    record b { x = reg_set b.x n v }
+with_general b n v = record b { x = reg_set b.x n v }
 
 -- other registers
 abbrev pub with_regs : Bare → Control → SysRegs → Bare
@@ -57,21 +55,11 @@ with_regs b k s = record b { control = k; sys = s }
 
 -- PAR_EL1 alone
 abbrev pub with_par : Bare → ℕ → Bare
-with_par b par =
-    with_regs b b.control
-    (record b.sys { par_el1 = par })
+with_par b par = with_regs b b.control (record b.sys { par_el1 = par })
 
 -- level, flags, PC and registers after an exception; all else stays
 abbrev pub with_entered : Bare → Entered → Bare
-with_entered b e =
-    record {
-      privilege = record { level = e.level; unprivileged = b.privilege.unprivileged };
-      flags = e.flags;
-      pc = e.pc;
-      x = b.x;
-      control = b.control;
-      sys = e.sys;
-    }
+with_entered b e = record b { privilege = record b.privilege { level = e.level }; flags = e.flags; pc = e.pc; sys = e.sys }
 
 -- THE CORE, of its architectural state, the cache, and the physical addresses of the last load and of the last external
 -- abort

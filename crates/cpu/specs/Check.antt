@@ -1,26 +1,31 @@
--- The numbers 1 to 8: docs/SCOPE.md, "Where each answer is given".
-use Rattle.std.specs.Prelude.{if◌then◌else◌, ℕ, ◌+◌, ◌*◌, ◌^◌, Bool, true, false, not, ◌||◌, List, [], ◌∷◌, nat_lt, Option, Some, None, Result, Ok, Err}
+-- The checks 1 to 8, in order, and the reply that a call gives.
+use Rattle.std.specs.Prelude.{if◌then◌else◌, ℕ, ◌+◌, ◌*◌, ◌^◌, Bool, true, false, not, ◌||◌, List, [], ◌∷◌, nat_lt, Option, Some, None, Result, Ok}
+use Rattle.std.specs.Prelude.{Err, is_some}
 use Rattle.word.specs.Bits.{align_down}
 use Rattle.word.specs.Ram.{width_of}
 use Rattle.sysreg.specs.Encoding.{register_at}
-use Rattle.sysreg.specs.Write.{names}
+use Rattle.sysreg.specs.Write.{names, WriteAnswer}
 use Rattle.system.specs.declared.decode.Encoding.{Encoding}
+use Rattle.tlb.specs.Answers.{Answer}
+use Rattle.sysreg.specs.declared.write.WriteError.TheVariants.{Undefined, NoRegister}
 use Rattle.cpu.specs.declared.{call.Call.Call, check.Check.Check}
-use Rattle.cpu.specs.declared.call.Call.TheVariants.{Translate, DataPa, FetchPa, Load, Store, Fetch, System, Register, Level, Mark, General}
-use Rattle.cpu.specs.declared.call.Call.TheVariants.{Abort, Census, Windows, Flip}
-use Rattle.word.specs.declared.ram.Width.{Width}
+use Rattle.cpu.specs.declared.call.Call.TheVariants.{Translate, DataPa, FetchPa, Load, Store, Fetch, System, Register, Level, Mark, General, Abort}
+use Rattle.cpu.specs.declared.call.Call.TheVariants.{Census, Windows, Flip}
+use Rattle.cpu.specs.Bytes.{LoadAnswer, StoreAnswer, FetchAnswer}
+use Rattle.cpu.specs.declared.call.Reply.{Reply}
+use Rattle.cpu.specs.declared.call.Reply.TheVariants.{Refused, Done, Value, Faults, Fault, Stopped}
+use Rattle.exception.specs.declared.kind.Exception.TheVariants as Exception
+use Rattle.exception.specs.declared.kind.Stop.TheVariants as Stop
+
+-- The numbers 1 to 8: docs/SCOPE.md, "Where each answer is given".
 
 -- base plus length is above 2^64
 abbrev pub passes : ℕ → ℕ → Bool
 passes base len = nat_lt (2 ^ 64) (base + len)
 
 -- a size of 1, 2, 4 or 8
-abbrev pub is_width : Option Width → Bool
-is_width (Some w) = true
-is_width None = false
-
 abbrev pub known : ℕ → Bool
-known size = is_width (width_of size)
+known size = is_some (width_of size)
 
 -- op1 or op2 above 7, CRn or CRm above 15
 abbrev pub unencoded : Encoding → Bool
@@ -93,3 +98,36 @@ core_of n = if nat_lt 3 n then Err Check.Core else Ok n
 abbrev pub number_missed : {A : Type 0} → Result A Check → ℕ
 number_missed (Ok x) = 0
 number_missed (Err check) = number_of check
+
+-- Each operation's answer as a reply.
+abbrev pub translation : ℕ → Answer → Reply
+translation va (Ok pa) = Value pa
+translation va (Err f) = Fault va f
+
+abbrev pub loading : LoadAnswer → Reply
+loading (Ok v) = Value v
+loading (Err s) = Stopped s
+
+abbrev pub storing : StoreAnswer → Reply
+storing (Ok x) = Done
+storing (Err s) = Stopped s
+
+abbrev pub fetching : FetchAnswer → Reply
+fetching (Ok v) = Value v
+fetching (Err e) = Stopped (Stop.Exception e)
+
+abbrev pub reaching : Option ℕ → Reply
+reaching (Some pa) = Value pa
+reaching None = Faults
+
+abbrev pub registering : WriteAnswer → Reply
+registering (Ok x) = Done
+registering (Err Undefined) = Stopped (Stop.Exception Exception.Undefined)
+registering (Err NoRegister) = Refused 6
+
+-- a number, Undefined and Unimplemented: refusals, which change nothing
+abbrev pub refuses : Reply → Bool
+refuses (Refused n) = true
+refuses (Stopped Stop.Unimplemented) = true
+refuses (Stopped (Stop.Exception Exception.Undefined)) = true
+refuses _ = false

@@ -1,72 +1,73 @@
--- The checks 1 to 8 in numbers: docs/SCOPE.md's table said once more, row by row, at each bound and one beyond it.
-use Rattle.std.specs.Prelude.{◌≡◌, ℕ, true, false, List, [], ◌∷◌, map}
+-- The checks said once more, in numbers, and the first that each of a row of calls misses.
+use Rattle.std.specs.Prelude.{◌≡◌, ◌^◌, [], ◌∷◌, ℕ, true, false, List, map, replicate}
 use Rattle.tlb.specs.declared.access.Kind.TheVariants.{Read}
-use Rattle.exception.specs.declared.kind.Exception.TheVariants as Exception
-use Rattle.cpu.specs.Check.{missed_of, core_of, number_missed}
-use Rattle.exception.specs.declared.kind.Stop.TheVariants as Stop
-use Rattle.cpu.specs.Replies.{refuses}
+use Rattle.cpu.specs.Check.{missed_of, core_of, number_missed, refuses}
+use Rattle.cpu.specs.declared.call.Call.TheVariants.{Census, Translate, DataPa, FetchPa, Load, Store, Fetch, System, Register, Level, Mark, General}
+use Rattle.cpu.specs.declared.call.Call.TheVariants.{Abort, Windows, Flip}
 use Rattle.cpu.specs.declared.call.Call.{Call}
-use Rattle.cpu.specs.declared.call.Call.TheVariants.{Translate, DataPa, FetchPa, Load, Store, Fetch, System, Register, Level, Mark, General}
-use Rattle.cpu.specs.declared.call.Call.TheVariants.{Abort, Census, Windows, Flip}
+use Rattle.exception.specs.declared.kind.Exception.TheVariants as Exception
+use Rattle.exception.specs.declared.kind.Stop.TheVariants as Stop
 use Rattle.cpu.specs.declared.call.Reply.TheVariants as Reply
 
--- each call with all wrong that a check can find: what its caller handed over misses as many checks as it can
-abbrev pub wrong_calls : List Call
-wrong_calls =
-    Translate Read 0
-    ∷ DataPa 0
-    ∷ FetchPa 0
-    ∷ Load 0 3
-    ∷ Store 0 3 0
-    ∷ Fetch 0
-    ∷ System (record { op1 = 8; crn = 16; crm = 16; op2 = 8; rt = 32 })
-    ∷ Register 0 0
-    ∷ Level 4
-    ∷ Mark true
-    ∷ General 32 0
-    ∷ Abort Exception.Undefined
-    ∷ Census 0 65537
-    ∷ Windows
-    ∷ Flip Read true 0
+-- a table: what stands first in each row is what stands second
+abbrev pub RowsHold : {A : Type 0} → List (A × A) → Type 0
+RowsHold {A = A} rows = map (λ (r : A × A). r.0) rows ≡ map (λ (r : A × A). r.1) rows
+
+-- Numbers of a census, computed.
+
+-- the numbers, by level, base and length of the window, first address and pages: 1 before 2 before 7; 65,536 pages and one more; a range that ends at
+-- 2^64, by an address within its page, and one that passes it; no page at the last address
+abbrev pub WorkedNumbers : Type 0
+WorkedNumbers =
+    RowsHold
+    ((missed_of 4 (2 ^ 64) 1 (Census 0 65537), 1)
+    ∷ (missed_of 3 (2 ^ 64) 1 (Census 0 65537), 2)
+    ∷ (missed_of 3 (2 ^ 64) 0 (Census 0 65537), 7)
+    ∷ (missed_of 0 0 0 (Census 0 65536), 0)
+    ∷ (missed_of 1 0 0 (Census 0xFFFFFFFFFFFFFFFF 1), 0)
+    ∷ (missed_of 2 0 0 (Census 0xFFFFFFFFFFFFFFFF 2), 7)
+    ∷ (missed_of 2 0 0 (Census 0xFFFFFFFFF0000000 65536), 0)
+    ∷ (missed_of 2 0 0 (Census 0xFFFFFFFFF0001000 65536), 7)
+    ∷ (missed_of 3 0 0 (Census 0xFFFFFFFFFFFFFFFF 0), 0)
+    ∷ [])
+
+-- The checks 1 to 8 in numbers: docs/SCOPE.md's table said once more, row by row, at each bound and one beyond it.
+
+-- a system operation, by op1, CRn, CRm, op2 and the register
+abbrev pub system : ℕ → ℕ → ℕ → ℕ → ℕ → Call
+system op1 crn crm op2 rt = System (record { op1 = op1; crn = crn; crm = crm; op2 = op2; rt = rt })
+
+-- the numbers of a call at level 4; at level 3 with a window that passes 2^64, as two bytes at the last address do; and with one that ends there: first of
+-- one whose caller handed over all wrong that a check can find, then of one with all right
+abbrev pub order : Call → Call → List ℕ
+order wrong right =
+    missed_of 4 0xFFFFFFFFFFFFFFFF 2 wrong
+    ∷ missed_of 3 0xFFFFFFFFFFFFFFFF 2 wrong
+    ∷ missed_of 3 0xFFFFFFFFFFFFFFFF 1 wrong
+    ∷ missed_of 4 0xFFFFFFFFFFFFFFFF 1 right
+    ∷ missed_of 3 0xFFFFFFFFFFFFFFFF 2 right
+    ∷ missed_of 3 0xFFFFFFFFFFFFFFFF 1 right
     ∷ []
 
--- each call with all right
-abbrev pub right_calls : List Call
-right_calls =
-    Translate Read 0
-    ∷ DataPa 0
-    ∷ FetchPa 0
-    ∷ Load 0 8
-    ∷ Store 0 8 0
-    ∷ Fetch 0
-    ∷ System (record { op1 = 7; crn = 15; crm = 15; op2 = 7; rt = 31 })
-    ∷ Register 0xC080 0
-    ∷ Level 3
-    ∷ Mark true
-    ∷ General 31 0
-    ∷ Abort Exception.Undefined
-    ∷ Census 0 65536
-    ∷ Windows
-    ∷ Flip Read true 0
-    ∷ []
-
--- a level above 3 comes before all else; then a window that passes 2^64, where the call is handed RAM; then the others. A
--- window of one byte at the last address ends at 2^64 and passes; with two bytes it does not
+-- a level above 3 comes before all else; then the window, where the call is handed RAM; then the others
 abbrev pub OrderRows : Type 0
 OrderRows =
-    (map (missed_of 4 0xFFFFFFFFFFFFFFFF 2) wrong_calls
-    ∷ map (missed_of 3 0xFFFFFFFFFFFFFFFF 2) wrong_calls
-    ∷ map (missed_of 3 0xFFFFFFFFFFFFFFFF 1) wrong_calls
-    ∷ map (missed_of 4 0xFFFFFFFFFFFFFFFF 1) right_calls
-    ∷ map (missed_of 3 0xFFFFFFFFFFFFFFFF 2) right_calls
-    ∷ map (missed_of 3 0xFFFFFFFFFFFFFFFF 1) right_calls
-    ∷ [])
-    ≡ ((1 ∷ 1 ∷ 1 ∷ 1 ∷ 1 ∷ 1 ∷ 1 ∷ 1 ∷ 1 ∷ 1 ∷ 1 ∷ 1 ∷ 1 ∷ 1 ∷ 1 ∷ [])
-    ∷ (2 ∷ 2 ∷ 2 ∷ 2 ∷ 2 ∷ 2 ∷ 2 ∷ 6 ∷ 1 ∷ 0 ∷ 5 ∷ 0 ∷ 2 ∷ 2 ∷ 2 ∷ [])
-    ∷ (0 ∷ 0 ∷ 0 ∷ 3 ∷ 3 ∷ 0 ∷ 4 ∷ 6 ∷ 1 ∷ 0 ∷ 5 ∷ 0 ∷ 7 ∷ 0 ∷ 0 ∷ [])
-    ∷ (1 ∷ 1 ∷ 1 ∷ 1 ∷ 1 ∷ 1 ∷ 1 ∷ 1 ∷ 1 ∷ 1 ∷ 1 ∷ 1 ∷ 1 ∷ 1 ∷ 1 ∷ [])
-    ∷ (2 ∷ 2 ∷ 2 ∷ 2 ∷ 2 ∷ 2 ∷ 2 ∷ 0 ∷ 0 ∷ 0 ∷ 0 ∷ 0 ∷ 2 ∷ 2 ∷ 2 ∷ [])
-    ∷ (0 ∷ 0 ∷ 0 ∷ 0 ∷ 0 ∷ 0 ∷ 0 ∷ 0 ∷ 0 ∷ 0 ∷ 0 ∷ 0 ∷ 0 ∷ 0 ∷ 0 ∷ [])
+    RowsHold
+    ((order (Translate Read 0) (Translate Read 0), 1 ∷ 2 ∷ 0 ∷ 1 ∷ 2 ∷ 0 ∷ [])
+    ∷ (order (DataPa 0) (DataPa 0), 1 ∷ 2 ∷ 0 ∷ 1 ∷ 2 ∷ 0 ∷ [])
+    ∷ (order (FetchPa 0) (FetchPa 0), 1 ∷ 2 ∷ 0 ∷ 1 ∷ 2 ∷ 0 ∷ [])
+    ∷ (order (Load 0 3) (Load 0 8), 1 ∷ 2 ∷ 3 ∷ 1 ∷ 2 ∷ 0 ∷ [])
+    ∷ (order (Store 0 3 0) (Store 0 8 0), 1 ∷ 2 ∷ 3 ∷ 1 ∷ 2 ∷ 0 ∷ [])
+    ∷ (order (Fetch 0) (Fetch 0), 1 ∷ 2 ∷ 0 ∷ 1 ∷ 2 ∷ 0 ∷ [])
+    ∷ (order (system 8 16 16 8 32) (system 7 15 15 7 31), 1 ∷ 2 ∷ 4 ∷ 1 ∷ 2 ∷ 0 ∷ [])
+    ∷ (order (Register 0 0) (Register 0xC080 0), 1 ∷ 6 ∷ 6 ∷ 1 ∷ 0 ∷ 0 ∷ [])
+    ∷ (order (Level 4) (Level 3), 1 ∷ 1 ∷ 1 ∷ 1 ∷ 0 ∷ 0 ∷ [])
+    ∷ (order (Mark true) (Mark true), 1 ∷ 0 ∷ 0 ∷ 1 ∷ 0 ∷ 0 ∷ [])
+    ∷ (order (General 32 0) (General 31 0), 1 ∷ 5 ∷ 5 ∷ 1 ∷ 0 ∷ 0 ∷ [])
+    ∷ (order (Abort Exception.Undefined) (Abort Exception.Undefined), 1 ∷ 0 ∷ 0 ∷ 1 ∷ 0 ∷ 0 ∷ [])
+    ∷ (order (Census 0 65537) (Census 0 65536), 1 ∷ 2 ∷ 7 ∷ 1 ∷ 2 ∷ 0 ∷ [])
+    ∷ (order Windows Windows, 1 ∷ 2 ∷ 0 ∷ 1 ∷ 2 ∷ 0 ∷ [])
+    ∷ (order (Flip Read true 0) (Flip Read true 0), 1 ∷ 2 ∷ 0 ∷ 1 ∷ 2 ∷ 0 ∷ [])
     ∷ [])
 
 -- of calls with nothing wrong before, at level 0 with an empty window
@@ -82,14 +83,14 @@ LevelRows =
 -- check 2, by base and length: a window that ends a byte below 2^64, at it, a byte and far beyond it
 abbrev pub WindowRows : Type 0
 WindowRows =
-    (missed_of 0 0 0xFFFFFFFFFFFFFFFF (Fetch 0)
-    ∷ missed_of 0 0x1000 0xFFFFFFFFFFFFEFFF (Fetch 0)
-    ∷ missed_of 0 0x1000 0xFFFFFFFFFFFFF000 (Fetch 0)
-    ∷ missed_of 0 0x1000 0xFFFFFFFFFFFFF001 (Fetch 0)
-    ∷ missed_of 0 0xFFFFFFFFFFFFFFFF 0 (Fetch 0)
-    ∷ missed_of 0 0xFFFFFFFFFFFFFFFF 0xFFFFFFFFFFFFFFFF (Fetch 0)
+    RowsHold
+    ((missed_of 0 0 0xFFFFFFFFFFFFFFFF (Fetch 0), 0)
+    ∷ (missed_of 0 0x1000 0xFFFFFFFFFFFFEFFF (Fetch 0), 0)
+    ∷ (missed_of 0 0x1000 0xFFFFFFFFFFFFF000 (Fetch 0), 0)
+    ∷ (missed_of 0 0x1000 0xFFFFFFFFFFFFF001 (Fetch 0), 2)
+    ∷ (missed_of 0 0xFFFFFFFFFFFFFFFF 0 (Fetch 0), 0)
+    ∷ (missed_of 0 0xFFFFFFFFFFFFFFFF 0xFFFFFFFFFFFFFFFF (Fetch 0), 2)
     ∷ [])
-    ≡ (0 ∷ 0 ∷ 0 ∷ 2 ∷ 0 ∷ 2 ∷ [])
 
 -- check 3, of a load's sizes and a store's
 abbrev pub sizes : List ℕ
@@ -97,29 +98,21 @@ sizes = 0 ∷ 1 ∷ 2 ∷ 3 ∷ 4 ∷ 5 ∷ 6 ∷ 7 ∷ 8 ∷ 9 ∷ 16 ∷ 0x100
 
 abbrev pub SizeRows : Type 0
 SizeRows =
-    (numbers_of (map (Load 0) sizes) ∷ numbers_of (map (λ (n : ℕ). Store 0 n 0) sizes) ∷ [])
-    ≡ ((3 ∷ 0 ∷ 0 ∷ 3 ∷ 0 ∷ 3 ∷ 3 ∷ 3 ∷ 0 ∷ 3 ∷ 3 ∷ 3 ∷ []) ∷ (3 ∷ 0 ∷ 0 ∷ 3 ∷ 0 ∷ 3 ∷ 3 ∷ 3 ∷ 0 ∷ 3 ∷ 3 ∷ 3 ∷ []) ∷ [])
+    RowsHold
+    ((numbers_of (map (Load 0) sizes), 3 ∷ 0 ∷ 0 ∷ 3 ∷ 0 ∷ 3 ∷ 3 ∷ 3 ∷ 0 ∷ 3 ∷ 3 ∷ 3 ∷ [])
+    ∷ (numbers_of (map (λ (n : ℕ). Store 0 n 0) sizes), 3 ∷ 0 ∷ 0 ∷ 3 ∷ 0 ∷ 3 ∷ 3 ∷ 3 ∷ 0 ∷ 3 ∷ 3 ∷ 3 ∷ [])
+    ∷ [])
 
--- checks 4 and 5 of a system operation, by op1, CRn, CRm, op2 and the register
-abbrev pub system : ℕ → ℕ → ℕ → ℕ → ℕ → Call
-system op1 crn crm op2 rt = System (record { op1 = op1; crn = crn; crm = crm; op2 = op2; rt = rt })
-
+-- checks 4 and 5 of a system operation
 abbrev pub SystemRows : Type 0
 SystemRows =
-    numbers_of
-    (system 7 0 0 0 0
-    ∷ system 8 0 0 0 0
-    ∷ system 0 15 0 0 0
-    ∷ system 0 16 0 0 0
-    ∷ system 0 0 15 0 0
-    ∷ system 0 0 16 0 0
-    ∷ system 0 0 0 7 0
-    ∷ system 0 0 0 8 0
-    ∷ system 0 0 0 0 31
-    ∷ system 0 0 0 0 32
-    ∷ system 0 0 0 8 32
+    RowsHold
+    ((numbers_of (system 7 0 0 0 0 ∷ system 8 0 0 0 0 ∷ []), 0 ∷ 4 ∷ [])
+    ∷ (numbers_of (system 0 15 0 0 0 ∷ system 0 16 0 0 0 ∷ []), 0 ∷ 4 ∷ [])
+    ∷ (numbers_of (system 0 0 15 0 0 ∷ system 0 0 16 0 0 ∷ []), 0 ∷ 4 ∷ [])
+    ∷ (numbers_of (system 0 0 0 7 0 ∷ system 0 0 0 8 0 ∷ []), 0 ∷ 4 ∷ [])
+    ∷ (numbers_of (system 0 0 0 0 31 ∷ system 0 0 0 0 32 ∷ system 0 0 0 8 32 ∷ []), 0 ∷ 5 ∷ 4 ∷ [])
     ∷ [])
-    ≡ (0 ∷ 4 ∷ 0 ∷ 4 ∷ 0 ∷ 4 ∷ 0 ∷ 4 ∷ 0 ∷ 5 ∷ 4 ∷ [])
 
 -- check 5 of a general register
 abbrev pub GeneralRows : Type 0
@@ -138,11 +131,11 @@ NamedKeys =
     ∷ 0xE600 ∷ 0xF600 ∷ 0xC201 ∷ 0xE201 ∷ 0xF201 ∷ 0xC200 ∷ 0xE200 ∷ 0xF200 ∷ 0xC290 ∷ 0xE290 ∷ 0xF290 ∷ 0xC300 ∷ 0xE300 ∷ 0xF300 ∷ 0xE000 ∷ 0xE005
     ∷ 0xC3A0
     ∷ []))
-    ≡ (0 ∷ 0 ∷ 0 ∷ 0 ∷ 0 ∷ 0 ∷ 0 ∷ 0 ∷ 0 ∷ 0 ∷ 0 ∷ 0 ∷ 0 ∷ 0 ∷ 0 ∷ 0 ∷ 0 ∷ 0 ∷ 0 ∷ 0 ∷ 0 ∷ 0 ∷ 0 ∷ 0 ∷ 0 ∷ 0 ∷ 0 ∷ 0 ∷ 0 ∷ 0 ∷ 0 ∷ 0 ∷ 0 ∷ [])
+    ≡ replicate 33 0
 
 abbrev pub OtherKeys : Type 0
 OtherKeys =
-    numbers_of (map write (0 ∷ 0xC000 ∷ 0xC081 ∷ 0xE101 ∷ 0xE3A0 ∷ 0xC3A1 ∷ 0x1C080 ∷ 0xFFFFFFFF ∷ [])) ≡ (6 ∷ 6 ∷ 6 ∷ 6 ∷ 6 ∷ 6 ∷ 6 ∷ 6 ∷ [])
+    numbers_of (map write (0 ∷ 0xC000 ∷ 0xC081 ∷ 0xE101 ∷ 0xE3A0 ∷ 0xC3A1 ∷ 0x1C080 ∷ 0xFFFFFFFF ∷ [])) ≡ replicate 8 6
 
 -- check 8, by a core's number of four
 abbrev pub CoreRows : Type 0
@@ -153,15 +146,14 @@ CoreRows =
 -- which replies refuse: of the exceptions Undefined alone
 abbrev pub RefusalRows : Type 0
 RefusalRows =
-    map refuses
-    (Reply.Refused 1
-    ∷ Reply.Refused 8
-    ∷ Reply.Stopped Stop.Unimplemented
-    ∷ Reply.Stopped (Stop.Exception Exception.Undefined)
-    ∷ Reply.Stopped (Stop.Exception (Exception.Svc 0))
-    ∷ Reply.Stopped (Stop.Exception Exception.PcAlignment)
-    ∷ Reply.Done
-    ∷ Reply.Value 0
-    ∷ Reply.Faults
+    RowsHold
+    ((refuses (Reply.Refused 1), true)
+    ∷ (refuses (Reply.Refused 8), true)
+    ∷ (refuses (Reply.Stopped Stop.Unimplemented), true)
+    ∷ (refuses (Reply.Stopped (Stop.Exception Exception.Undefined)), true)
+    ∷ (refuses (Reply.Stopped (Stop.Exception (Exception.Svc 0))), false)
+    ∷ (refuses (Reply.Stopped (Stop.Exception Exception.PcAlignment)), false)
+    ∷ (refuses Reply.Done, false)
+    ∷ (refuses (Reply.Value 0), false)
+    ∷ (refuses Reply.Faults, false)
     ∷ [])
-    ≡ (true ∷ true ∷ true ∷ true ∷ false ∷ false ∷ false ∷ false ∷ false ∷ [])

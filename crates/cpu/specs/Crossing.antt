@@ -1,20 +1,20 @@
 -- Of an access over two pages the lowest failing byte decides: a byte fails where its page's translation does, and where it lies outside RAM. One rule,
 -- with no case for a fault of the second page behind a byte of the first that lies outside. And what changed by it: the ends as they were before, which
 -- let a fault of the second page come first.
-use Rattle.std.specs.Prelude.{if◌then◌else◌, ◌≡◌, ℕ, ◌+◌, ◌-◌, ◌%◌, ◌^◌, ◌<◌, ◌≢◌, true, false, List, length, nat_lt, Option, Some, None, Ok, Err, unwrap_or}
+use Rattle.std.specs.Prelude.{if◌then◌else◌, ◌≡◌, ℕ, ◌+◌, ◌-◌, ◌%◌, ◌^◌, ◌<◌, ◌≢◌, true, false, List, length, nat_lt, Option, Some, None, Ok, Err}
+use Rattle.std.specs.Prelude.{unwrap_or}
 use Rattle.word.specs.Bits.{wrap}
 use Rattle.word.specs.Ram.{within, word_at}
 use Rattle.fault.specs.declared.Fault.{Fault}
 use Rattle.tlb.specs.Answers.{Answer}
-use Rattle.cpu.specs.Answers.{Placed}
-use Rattle.cpu.specs.Place.{in_page, placed_one, placed_both}
-use Rattle.cpu.specs.Ends.{LoadEnd, StoreEnd, external, data_abort, load_end, store_end, store_ram_end}
+use Rattle.cpu.specs.Bytes.{Placed, in_page, placed_one, placed_both, LoadEnd, End, StoreAnswer, external, data_abort, load_end, store_end}
+use Rattle.cpu.specs.Bytes.{store_ram_end}
 use Rattle.tlb.specs.declared.access.Kind.{Kind}
 use Rattle.tlb.specs.declared.access.Kind.TheVariants.{Read, Write}
 use Rattle.exception.specs.declared.kind.Stop.{Stop}
-use Rattle.cpu.specs.EndMeaning.{stop_address}
+use Rattle.cpu.specs.PlaceRows.{stop_address}
 use Rattle.cpu.specs.Memory.{read_of, write_of}
-use Rattle.cpu.specs.OpLaws.{on_now}
+use Rattle.cpu.specs.Asks.{on_now}
 use Rattle.cpu.specs.OwnAddress.{own_answer, Ready}
 use Rattle.cpu.specs.declared.Core.{Core}
 
@@ -101,7 +101,7 @@ load_end_before (Err failed) last abort base ram va n =
     record { last_pa = last; abort_pa = abort; answer = Err (data_abort failed.addr false failed.fault) }
 load_end_before (Ok place) last abort base ram va n = load_end (Ok place) last abort base ram va n
 
-abbrev pub store_end_before : Placed → ℕ → ℕ → List ℕ → ℕ → ℕ → StoreEnd
+abbrev pub store_end_before : Placed → ℕ → ℕ → List ℕ → ℕ → ℕ → End StoreAnswer
 store_end_before (Err failed) abort base ram va n = record { abort_pa = abort; answer = Err (data_abort failed.addr true failed.fault) }
 store_end_before (Ok place) abort base ram va n = store_end (Ok place) abort base ram va n
 

@@ -5,9 +5,9 @@ use Rattle.cpu.specs.Says.{Said, value, done, fault, faults, undefined, unimplem
 use Rattle.cpu.specs.declared.Core.{Core}
 use Rattle.cpu.specs.declared.{call.Call.Call, call.Reply.Reply}
 use Rattle.cpu.specs.System.{op_of}
-use Rattle.cpu.specs.declared.call.Call.TheVariants.{Translate, DataPa, FetchPa, Load as LoadCall, Store as StoreCall, Fetch, System}
-use Rattle.cpu.specs.declared.call.Call.TheVariants.{Register as RegisterCall, Level, Mark, General, Abort, Census, Windows, Flip}
+use Rattle.cpu.specs.declared.call.Call.TheVariants.{Load as LoadCall, Store as StoreCall, Fetch, System}
 use Rattle.cpu.specs.declared.call.Reply.TheVariants.{Refused, Done, Value, Faults, Fault, Stopped}
+use Rattle.cpu.specs.Step.{step_of}
 
 -- a reply as the number of a check, or what it says: a value, a fault's address and status, done, Undefined, Unimplemented
 pub data Outcome : Type 0 where
@@ -46,25 +46,27 @@ pub data Ended (c : Core) (ram : List ℕ) : ℕ → Core → List ℕ → Outco
 -- stores and zeroing may write; translations, loads, fetches, AT, TLBI, register writes, settings, abort entry, the census, the windows and a flip change no byte
 abbrev pub zeroes : SysOp → Bool
 zeroes SysOp.Zva = true
-zeroes (SysOp.At form) = false
-zeroes SysOp.Tlbi = false
-zeroes SysOp.Nothing = false
-zeroes SysOp.Undefined = false
-zeroes SysOp.Unimplemented = false
+zeroes _ = false
 
 abbrev pub writes : Core → Call → Bool
 writes c (StoreCall va size v) = true
 writes c (System f) = zeroes (op_of c f.op1 f.crn f.crm f.op2)
-writes c (Translate kind va) = false
-writes c (DataPa va) = false
-writes c (FetchPa va) = false
-writes c (LoadCall va size) = false
-writes c (Fetch va) = false
-writes c (RegisterCall key v) = false
-writes c (Level level) = false
-writes c (Mark mark) = false
-writes c (General n v) = false
-writes c (Abort x) = false
-writes c (Census first pages) = false
-writes c Windows = false
-writes c (Flip kind user va) = false
+writes c _ = false
+
+-- Which calls set the two physical addresses that a core keeps: `last_pa` a load alone; `abort_pa` what may write RAM, a load and a fetch.
+abbrev pub loads : Call → Bool
+loads (LoadCall va size) = true
+loads _ = false
+
+abbrev pub goes_to_memory : Core → Call → Bool
+goes_to_memory c (LoadCall va size) = true
+goes_to_memory c (Fetch va) = true
+goes_to_memory c call = writes c call
+
+abbrev pub OnlyLoadCallsSetLast : Type 0
+OnlyLoadCallsSetLast =
+    (c : Core) (base : ℕ) (ram : List ℕ) (call : Call) → loads call ≡ false → (step_of c base ram call).core.last_pa ≡ c.last_pa
+
+abbrev pub OtherCallsKeepAbort : Type 0
+OtherCallsKeepAbort =
+    (c : Core) (base : ℕ) (ram : List ℕ) (call : Call) → goes_to_memory c call ≡ false → (step_of c base ram call).core.abort_pa ≡ c.abort_pa

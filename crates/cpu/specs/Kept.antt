@@ -2,7 +2,7 @@
 -- external abort by who sets them.
 use Rattle.std.specs.Prelude.{◌≡◌, ℕ, ◌+◌, ◌<◌, ◌≤◌, Bool, true, false, List, [], ◌∷◌, length, map, ◌≢◌}
 use Rattle.cpu.specs.Core.{fresh_core, reg_of, set_reg}
-use Rattle.cpu.specs.OpLaws.{Operation, translate, access, load, store, fetch, fetch_pa, data_pa, operation_core}
+use Rattle.cpu.specs.Says.{Operation, load, store, fetch, operation_core}
 use Rattle.cpu.specs.declared.Core.{Core}
 
 -- GENERAL REGISTERS
@@ -49,28 +49,20 @@ NeighbourRows =
 -- `last_pa` AND `abort_pa`
 
 -- only a load sets `last_pa`
-abbrev pub loads : Operation → Bool
-loads (load va n) = true
-loads (translate va kind) = false
-loads (access va n kind) = false
-loads (store va n v) = false
-loads (fetch va) = false
-loads (fetch_pa va) = false
-loads (data_pa va) = false
-
--- only what goes to memory sets `abort_pa`
-abbrev pub goes_to_memory : Operation → Bool
-goes_to_memory (load va n) = true
-goes_to_memory (store va n v) = true
-goes_to_memory (fetch va) = true
-goes_to_memory (translate va kind) = false
-goes_to_memory (access va n kind) = false
-goes_to_memory (fetch_pa va) = false
-goes_to_memory (data_pa va) = false
+abbrev pub is_load : Operation → Bool
+is_load (load va n) = true
+is_load _ = false
 
 abbrev pub OnlyLoadsSetLast : Type 0
-OnlyLoadsSetLast = (c : Core) (base : ℕ) (ram : List ℕ) (o : Operation) → loads o ≡ false → (operation_core c base ram o).last_pa ≡ c.last_pa
+OnlyLoadsSetLast = (c : Core) (base : ℕ) (ram : List ℕ) (o : Operation) → is_load o ≡ false → (operation_core c base ram o).last_pa ≡ c.last_pa
+
+-- only what goes to memory sets `abort_pa`
+abbrev pub moves_bytes : Operation → Bool
+moves_bytes (load va n) = true
+moves_bytes (store va n v) = true
+moves_bytes (fetch va) = true
+moves_bytes _ = false
 
 abbrev pub TranslationsKeepAbort : Type 0
 TranslationsKeepAbort =
-    (c : Core) (base : ℕ) (ram : List ℕ) (o : Operation) → goes_to_memory o ≡ false → (operation_core c base ram o).abort_pa ≡ c.abort_pa
+    (c : Core) (base : ℕ) (ram : List ℕ) (o : Operation) → moves_bytes o ≡ false → (operation_core c base ram o).abort_pa ≡ c.abort_pa

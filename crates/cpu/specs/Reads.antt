@@ -2,25 +2,23 @@
 use Rattle.std.specs.Prelude.{◌≡◌, ℕ, suc, ◌+◌, ◌^◌, ◌<◌, ◌≤◌, Bool, true, false, List, [], ◌∷◌, Option}
 use Rattle.word.specs.Bits.{align_down}
 use Rattle.word.specs.Ram.{word_at}
-use Rattle.walk.specs.Fetches.{fresh_reads}
+use Rattle.walk.specs.Walk.{fresh_reads}
 use Rattle.walk.specs.Regime.{bank_of, stage1_on}
 use Rattle.system.specs.declared.{decode.AtForm.AtForm, decode.Encoding.Encoding, decode.SysOp.SysOp}
 use Rattle.tlb.specs.Asks.{Ask, onward, answer_of, tlb_ask, work_of}
 use Rattle.tlb.specs.Live.{WellFormed}
 use Rattle.tlb.specs.Model.{Access}
-use Rattle.tlb.specs.Work.{no_work}
+use Rattle.tlb.specs.Translate.{no_work}
 use Rattle.tlb.specs.declared.{access.Kind.Kind, work.Work.Work, Tlb.Tlb}
-use Rattle.cpu.specs.Asks.{access_at, access_asks}
+use Rattle.cpu.specs.Asks.{access_at, access_asks, on_now}
 use Rattle.cpu.specs.Core.{bank_now, reg_of}
-use Rattle.cpu.specs.OpLaws.{on_now}
-use Rattle.cpu.specs.Place.{crosses}
+use Rattle.cpu.specs.Bytes.{crosses}
 use Rattle.cpu.specs.Step.{missed_by}
 use Rattle.cpu.specs.System.{op_of}
 use Rattle.cpu.specs.Work.{access_work, write_work, zero_work, step_work}
 use Rattle.cpu.specs.declared.Core.{Core}
 use Rattle.cpu.specs.declared.call.Call.{Call}
 use Rattle.cpu.specs.declared.call.Call.TheVariants.{Translate, DataPa, FetchPa, Load as LoadCall, Store as StoreCall, Fetch, System}
-use Rattle.cpu.specs.declared.call.Call.TheVariants.{Register, Level, Mark, General, Abort, Census, Windows, Flip}
 
 -- AN ACCESS
 
@@ -77,11 +75,8 @@ AtReads =
 -- census, the windows and a flip do not
 abbrev pub walks : SysOp → Bool
 walks (SysOp.At form) = true
-walks SysOp.Tlbi = false
 walks SysOp.Zva = true
-walks SysOp.Nothing = false
-walks SysOp.Undefined = false
-walks SysOp.Unimplemented = false
+walks _ = false
 
 abbrev pub reads_tables : Core → Call → Bool
 reads_tables c (Translate kind va) = true
@@ -91,14 +86,7 @@ reads_tables c (LoadCall va size) = true
 reads_tables c (StoreCall va size v) = true
 reads_tables c (Fetch va) = true
 reads_tables c (System e) = walks (op_of c e.op1 e.crn e.crm e.op2)
-reads_tables c (Register key v) = false
-reads_tables c (Level level) = false
-reads_tables c (Mark mark) = false
-reads_tables c (General n v) = false
-reads_tables c (Abort x) = false
-reads_tables c (Census first pages) = false
-reads_tables c Windows = false
-reads_tables c (Flip kind user va) = false
+reads_tables c _ = false
 
 abbrev pub OthersReadNothing : Type 0
 OthersReadNothing =

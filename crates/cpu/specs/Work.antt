@@ -4,29 +4,22 @@ use Rattle.std.specs.Prelude.{ℕ, zero, suc, ◌+◌, List, Option, Some, None}
 use Rattle.word.specs.Bits.{align_down, wrap}
 use Rattle.word.specs.Ram.{word_at, width_of, bytes_in}
 use Rattle.word.specs.declared.ram.Width.{Width}
-use Rattle.walk.specs.Fetches.{fresh_reads}
+use Rattle.walk.specs.Walk.{fresh_reads}
 use Rattle.walk.specs.Regime.{bank_of}
 use Rattle.tlb.specs.Asks.{works}
-use Rattle.tlb.specs.Model.{Access}
-use Rattle.tlb.specs.Work.{read_more, work_missed, work_in, fetch_work_in}
+use Rattle.tlb.specs.Translate.{read_more, work_missed, work_in, fetch_work_in}
 use Rattle.tlb.specs.declared.{access.Kind.Kind, work.Work.Work}
 use Rattle.tlb.specs.declared.access.Kind.TheVariants.{Read, Write, Fetch}
 use Rattle.system.specs.declared.{decode.AtForm.AtForm, decode.SysOp.SysOp}
-use Rattle.system.specs.declared.decode.SysOp.TheVariants.{At, Tlbi, Zva, Nothing, Undefined, Unimplemented}
-use Rattle.cpu.specs.Asks.{access_at, access_asks}
-use Rattle.cpu.specs.Core.{bank_now, reg_of}
+use Rattle.system.specs.declared.decode.SysOp.TheVariants.{At, Zva}
+use Rattle.cpu.specs.Asks.{access_asks, on_now, asked_now}
+use Rattle.cpu.specs.Core.{reg_of}
 use Rattle.cpu.specs.Memory.{write_of, ram_after_write}
-use Rattle.cpu.specs.OpLaws.{on_now}
 use Rattle.cpu.specs.Step.{refused_or, missed_by}
 use Rattle.cpu.specs.System.{on_stored, op_of}
 use Rattle.cpu.specs.declared.Core.{Core}
 use Rattle.cpu.specs.declared.call.Call.{Call}
 use Rattle.cpu.specs.declared.call.Call.TheVariants.{Translate, DataPa, FetchPa, Load as LoadCall, Store as StoreCall, Fetch as FetchCall, System}
-use Rattle.cpu.specs.declared.call.Call.TheVariants.{Register, Level, Mark, General, Abort, Census, Windows, Flip}
-
--- the access of a kind at an address, as the core makes it
-abbrev asked_now : Core → (ℕ → Option ℕ) → Kind → ℕ → Access
-asked_now c memory kind va = access_at (bank_now c) c.privilege memory kind va
 
 -- A TRANSLATION: one that no hint serves, one by its hint first, that of a fetch
 
@@ -64,16 +57,13 @@ at_work c memory form va w = read_more (fresh_reads (bank_of c.control form.regi
 -- A SYSTEM OPERATION, by what its encoding names
 abbrev pub sys_work_by : SysOp → Core → ℕ → List ℕ → ℕ → Work → Work
 sys_work_by (At form) c base ram x w = at_work c (word_at base ram 8) form x w
-sys_work_by Tlbi c base ram x w = w
 sys_work_by Zva c base ram x w = zero_work 8 c base ram (align_down x 6) w
-sys_work_by Nothing c base ram x w = w
-sys_work_by Undefined c base ram x w = w
-sys_work_by Unimplemented c base ram x w = w
+sys_work_by _ c base ram x w = w
 
 unfoldable pub sys_work : Core → ℕ → List ℕ → ℕ → ℕ → ℕ → ℕ → ℕ → Work → Work
 sys_work c base ram op1 crn crm op2 rt w = sys_work_by (op_of c op1 crn crm op2) c base ram (reg_of c rt) w
 
--- A CALL. A census, windows and a flip walk, and report none.
+-- A CALL: translations, accesses and system operations. A census, windows and a flip walk, and report none; the others read none.
 abbrev pub load_work_by : Option Width → Core → ℕ → List ℕ → ℕ → Work → Work
 load_work_by (Some n) c base ram va w = read_work c base ram va (bytes_in n) w
 load_work_by None c base ram va w = w
@@ -90,14 +80,7 @@ run_work c base ram (LoadCall va size) w = load_work_by (width_of size) c base r
 run_work c base ram (StoreCall va size value) w = store_work_by (width_of size) c base ram va w
 run_work c base ram (FetchCall va) w = fetch_work c (word_at base ram 8) va w
 run_work c base ram (System e) w = sys_work c base ram e.op1 e.crn e.crm e.op2 e.rt w
-run_work c base ram (Register key value) w = w
-run_work c base ram (Level level) w = w
-run_work c base ram (Mark mark) w = w
-run_work c base ram (General number value) w = w
-run_work c base ram (Abort e) w = w
-run_work c base ram (Census first pages) w = w
-run_work c base ram Windows w = w
-run_work c base ram (Flip kind user va) w = w
+run_work c base ram _ w = w
 
 -- a refused call reads nothing
 unfoldable pub step_work : Core → ℕ → List ℕ → Call → Work → Work

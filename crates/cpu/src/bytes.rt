@@ -1,8 +1,9 @@
 // Bytes moved between a value and RAM, once it is known where they lie.
+#![tactic(auto, unfolding(crate::specs::Bytes::load_of, crate::specs::Bytes::verdict_of, word::specs::Ram::word_at, crate::specs::Bytes::store_ram, crate::specs::Bytes::insn_of, word::specs::Ram::little_endian))]
+
 ghost use Rattle.std.specs.Prelude.{◌≡◌, ◌≤◌, length};
 ghost use Rattle.word.specs.Ram.{bytes_in};
-ghost use Rattle.cpu.specs.Place.{verdict_of, Lie};
-ghost use Rattle.cpu.specs.Bytes.{split_value, load_of, store_ram, insn_of};
+ghost use Rattle.cpu.specs.Bytes.{verdict_of, Lie, split_value, load_of, store_ram, insn_of};
 
 use crate::place;
 use crate::place::{Outside, Pages, Place};
@@ -25,7 +26,6 @@ fn split_value(base: u64, ram: &[u8], p: Pages, n: u64) -> u64
     v
 }
 
-#[tactic(auto, unfolding(crate::specs::Bytes::load_of, crate::specs::Place::verdict_of))]
 fn load_split(base: u64, ram: &[u8], p: Pages, n: u64) -> Result<u64, Outside>
     requires { n ≤ 8 }
     ensures { result ≡ load_of base ram.now (Place.Split p) n }
@@ -35,7 +35,6 @@ fn load_split(base: u64, ram: &[u8], p: Pages, n: u64) -> Result<u64, Outside>
 }
 
 /// A load from a place; an error is its lowest byte outside RAM.
-#[tactic(auto, unfolding(crate::specs::Bytes::load_of, crate::specs::Place::verdict_of, word::specs::Ram::word_at))]
 pub fn load(base: u64, ram: &[u8], place: Place, width: Width) -> Result<u64, Outside>
     ensures { result ≡ load_of base ram.now place (bytes_in width) }
 {
@@ -46,7 +45,6 @@ pub fn load(base: u64, ram: &[u8], place: Place, width: Width) -> Result<u64, Ou
 }
 
 // Byte by byte, up to the first outside: those before it are written.
-#[tactic(auto, unfolding(crate::specs::Place::verdict_of, crate::specs::Bytes::store_ram))]
 fn store_split(base: u64, ram: &mut [u8], p: Pages, n: u64, value: u64) -> Result<(), Outside>
     ensures { (result ≡ verdict_of base (length ram.old) (Place.Split p) n)
         × (ram.new ≡ store_ram base ram.old (Place.Split p) n value) }
@@ -66,7 +64,6 @@ fn store_split(base: u64, ram: &mut [u8], p: Pages, n: u64, value: u64) -> Resul
 
 /// A store of a value's low bytes to a place; an error is its lowest byte outside RAM, before which a split store has
 /// written.
-#[tactic(auto, unfolding(crate::specs::Place::verdict_of, crate::specs::Bytes::store_ram))]
 pub fn store(
     base: u64,
     ram: &mut [u8],
@@ -78,19 +75,14 @@ pub fn store(
         × (ram.new ≡ store_ram base ram.old place (bytes_in width) value) }
 {
     match place {
-        Place::Whole(pa) => {
-            if ram::write(base, ram, width, pa, value) {
-                Ok(())
-            } else {
-                Err(Outside { index: 0, pa })
-            }
-        }
+        Place::Whole(pa) => ram::write(base, ram, width, pa, value)
+            .then_some(())
+            .ok_or(Outside { index: 0, pa }),
         Place::Split(p) => store_split(base, ram, p, width.bytes(), value),
     }
 }
 
 /// The instruction at the physical address `pa`: four bytes, or nothing where one of them lies outside RAM.
-#[tactic(auto, unfolding(crate::specs::Bytes::insn_of, word::specs::Ram::little_endian))]
 pub fn insn_at(base: u64, ram: &[u8], pa: u64) -> Option<u32>
     ensures { result ≡ insn_of base ram.now pa }
 {

@@ -1,4 +1,6 @@
 // The checks 1 to 8 of docs/SCOPE.md, each call's from top to bottom; of several cores 8 comes before all.
+#![tactic(auto, unfolding(crate::specs::Check::missed_of))]
+
 ghost use Rattle.std.specs.Prelude.{if◌then◌else◌, ◌≡◌, not, ◌||◌, [], ◌∷◌, nat_lt, Ok, Some};
 ghost use Rattle.word.specs.Ram.{width_of};
 ghost use Rattle.word.specs.declared.ram.Width.{Width};
@@ -115,7 +117,6 @@ pub fn sized(level: u8, base: u64, len: u64, size: u64) -> Result<Width, Check>
 }
 
 /// System operation.
-#[tactic(auto, unfolding(crate::specs::Check::missed_of))]
 pub fn system(level: u8, base: u64, len: u64, e: Encoding) -> Result<(), Check>
     ensures { number_missed result ≡ missed_of level base len (Call.System e) }
 {
@@ -141,7 +142,6 @@ pub fn general(level: u8, number: u64) -> Result<(), Check>
 }
 
 /// Census.
-#[tactic(auto, unfolding(crate::specs::Check::missed_of))]
 pub fn census(level: u8, base: u64, len: u64, first: u64, pages: u64) -> Result<(), Check>
     ensures { number_missed result ≡ missed_of level base len (Call.Census first pages) }
 {
@@ -151,7 +151,6 @@ pub fn census(level: u8, base: u64, len: u64, first: u64, pages: u64) -> Result<
 
 /// Any call.
 #[inline(always)]
-#[tactic(auto, unfolding(crate::specs::Check::missed_of))]
 pub fn missed(level: u8, base: u64, len: u64, call: Call) -> Result<(), Check>
     ensures { number_missed result ≡ missed_of level base len call }
 {

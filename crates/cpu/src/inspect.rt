@@ -1,6 +1,6 @@
 // Operations that look at registers and RAM and change neither: what they find, beside the call's reply.
 ghost use Rattle.std.specs.Prelude.{◌≡◌};
-ghost use Rattle.cpu.specs.Inspect.{census_by};
+ghost use Rattle.cpu.specs.Step.{census_by};
 
 use crate::call::Reply;
 use crate::{Core, check};
@@ -15,7 +15,7 @@ pub struct Censused {
 
 impl Core {
     /// The census of so many pages from the page of first, at the core's level.
-    #[tactic(auto, unfolding(crate::specs::Inspect::census_by, crate::specs::Inspect::counts_after, crate::specs::Step::step_of, crate::specs::Step::run_of))]
+    #[tactic(auto, unfolding(crate::specs::Step::census_by, crate::specs::Step::counts_after, crate::specs::Step::step_of, crate::specs::Step::run_of))]
     pub fn census(&self, base: u64, ram: &[u8], first: u64, pages: u64) -> Censused
         ensures { result ≡ census_by self.now base ram.now first pages }
     {

@@ -37,11 +37,11 @@ pub struct Core {
     pub abort_pa: u64,
 }
 
+#[tactic(auto, unfolding(crate::specs::Core::fresh_core, crate::specs::Bare::zeros, crate::specs::Core::reg_of, crate::specs::Core::set_reg))]
 impl Core {
     ghost use Rattle.cpu.specs.Core.{fresh_core, reg_of, set_reg, bank_now};
 
     /// After reset.
-    #[tactic(auto, unfolding(crate::specs::Core::fresh_core, crate::specs::Bare::zeros))]
     pub fn new() -> Self
         ensures { result ≡ fresh_core }
     {
@@ -62,7 +62,6 @@ impl Core {
     }
 
     /// A general register. Register 31 reads as zero.
-    #[tactic(auto, unfolding(crate::specs::Core::reg_of))]
     pub fn reg(&self, n: u64) -> u64
         ensures { result ≡ reg_of self.now n }
     {
@@ -70,7 +69,6 @@ impl Core {
     }
 
     /// Register 31 drops what is written.
-    #[tactic(auto, unfolding(crate::specs::Core::set_reg))]
     pub fn set_reg(&mut self, n: u64, value: u64)
         ensures { self.new ≡ set_reg self.old n value }
     {

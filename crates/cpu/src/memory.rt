@@ -3,11 +3,10 @@ ghost use Rattle.std.specs.Prelude.{◌≡◌, length};
 ghost use Rattle.word.specs.Ram.{word_at, bytes_in};
 ghost use Rattle.exception.specs.Abort.{insn_abort_at};
 ghost use Rattle.cpu.specs.Core.{bank_now};
-ghost use Rattle.cpu.specs.Place.{first_part};
-ghost use Rattle.cpu.specs.Ends.{external, data_abort, external_abort, failed_access, abort_after};
-ghost use Rattle.cpu.specs.Memory.{translate_of, past_hint_of, translate_fetch_of, translate_access_of};
-ghost use Rattle.cpu.specs.Hand.{HandedNow, KeptNow, NeedsWalkNow};
-ghost use Rattle.cpu.specs.Memory.{read_of, write_of, ram_after_write, fetch_of, fetch_pa_of, data_pa_of};
+ghost use Rattle.cpu.specs.Bytes.{first_part, external, data_abort, external_abort, failed_access, abort_after};
+ghost use Rattle.cpu.specs.Memory.{translate_of, past_hint_of, translate_fetch_of, translate_access_of, HandedNow};
+ghost use Rattle.cpu.specs.Memory.{KeptNow, NeedsWalkNow, read_of, write_of, ram_after_write, fetch_of, fetch_pa_of};
+ghost use Rattle.cpu.specs.Memory.{data_pa_of};
 ghost use Rattle.cpu.specs.Work.{past_hint_work, translate_work, fetch_work, access_work, read_work, write_work};
 ghost use Rattle.tlb.specs.declared.access.Kind.TheVariants.{Read};
 
@@ -36,6 +35,7 @@ fn data_abort(addr: u64, write: bool, fault: Fault) -> Stop
     Stop::Exception(Exception::DataAbort(DataAbort { addr, write, fault }))
 }
 
+#[tactic(auto, unfolding(crate::specs::Memory::past_hint_of, crate::specs::Memory::past_hint_step, crate::specs::Core::after_access, crate::specs::Work::past_hint_work, crate::specs::Memory::translate_of, crate::specs::Memory::stepped_now, crate::specs::Memory::translate_in, crate::specs::Work::translate_work, crate::specs::Memory::translate_fetch_of, crate::specs::Memory::fetch_stepped_now, crate::specs::Memory::translate_fetch_in, crate::specs::Work::fetch_work, crate::specs::Memory::translate_access_of, crate::specs::Memory::located_now, crate::specs::Memory::located_of, crate::specs::Work::access_work, crate::specs::Memory::read_of, crate::specs::Bytes::load_end, crate::specs::Memory::write_of, crate::specs::Memory::ram_after_write, crate::specs::Bytes::store_end, crate::specs::Bytes::store_ram_end, crate::specs::Memory::fetch_of, crate::specs::Bytes::fetch_end, crate::specs::Memory::fetch_pa_of, crate::specs::Memory::data_pa_of), using(crate::proofs::ReadLaws::first_work, crate::proofs::BytesLaws::len))]
 impl Core {
     // An access as the core makes it. The level is read once, for the regime's registers and for the rights.
     #[inline(always)]
@@ -54,7 +54,6 @@ impl Core {
 
     /// The answer of a translation that no hint serves, where no walk is needed. RAM is read by no code here.
     #[inline(always)]
-    #[tactic(auto, unfolding(crate::specs::Memory::past_hint_of, crate::specs::Translations::past_hint_step, crate::specs::Core::after_access))]
     pub fn at_hand(
         &mut self,
         base: u64,
@@ -71,7 +70,6 @@ impl Core {
 
     /// A translation by a walk: where one is needed, the translation.
     #[inline(always)]
-    #[tactic(auto, unfolding(crate::specs::Memory::past_hint_of, crate::specs::Translations::past_hint_step, crate::specs::Core::after_access, crate::specs::Work::past_hint_work))]
     pub fn by_walk(
         &mut self,
         base: u64,
@@ -92,7 +90,6 @@ impl Core {
     // A translation that no hint serves. Out of line, and reads the registers itself, so that a hint pays nothing for
     // it.
     #[inline(never)]
-    #[tactic(auto, unfolding(crate::specs::Work::past_hint_work))]
     fn translate_slow(
         &mut self,
         base: u64,
@@ -114,7 +111,6 @@ impl Core {
     /// Where an access of the kind to va goes: the data hint first, which is asked once. The fetch hint is neither used
     /// nor set.
     #[inline(always)]
-    #[tactic(auto, unfolding(crate::specs::Memory::translate_of, crate::specs::Memory::stepped_now, crate::specs::Memory::past_hint_of, crate::specs::Translations::translate_in, crate::specs::Translations::past_hint_step, crate::specs::Core::after_access, crate::specs::Work::translate_work, crate::specs::Work::past_hint_work))]
     pub fn translate(
         &mut self,
         base: u64,
@@ -135,7 +131,6 @@ impl Core {
 
     /// The translation that a fetch begins with: by the fetch hint, and else one that leaves it.
     #[inline(always)]
-    #[tactic(auto, unfolding(crate::specs::Memory::translate_fetch_of, crate::specs::Memory::fetch_stepped_now, crate::specs::Memory::past_hint_of, crate::specs::Translations::past_hint_step, crate::specs::Translations::translate_fetch_in, crate::specs::Core::after_access, crate::specs::Work::fetch_work, crate::specs::Work::past_hint_work))]
     pub fn translate_fetch(
         &mut self,
         base: u64,
@@ -158,7 +153,6 @@ impl Core {
     /// The translations of an access, before a byte moves: one, or two where it crosses a page. The first one's effects
     /// remain where the second faults.
     #[inline(always)]
-    #[tactic(auto, unfolding(crate::specs::Memory::translate_access_of, crate::specs::Memory::located_now, crate::specs::Translations::located_of, crate::specs::Memory::translate_of, crate::specs::Memory::stepped_now, crate::specs::Core::after_access, crate::specs::Work::access_work, crate::specs::Work::translate_work), using(crate::proofs::AccessWork::first_work))]
     pub fn translate_access(
         &mut self,
         base: u64,
@@ -168,7 +162,7 @@ impl Core {
         kind: Kind,
         work: &mut Work,
     ) -> Result<Place, FaultAt>
-        ensures core { record { core = self.new; placed = result }
+        ensures core { record { core = self.new; answer = result }
             ≡ translate_access_of self.old (word_at base ram.now 8) va (bytes_in width) kind }
         ensures work { work.new
             ≡ access_work self.old (word_at base ram.now 8) va (bytes_in width) kind work.old }
@@ -197,7 +191,6 @@ impl Core {
     /// The value of a width's bytes from va on. `last_pa` is the first byte's physical address once the translations
     /// have succeeded, also where the load then aborts. An error is a data abort of a read: a fault of its page, or an
     /// external abort at the lowest byte outside RAM, whose physical address `abort_pa` then is.
-    #[tactic(auto, unfolding(crate::specs::Memory::read_of, crate::specs::Memory::translate_access_of, crate::specs::Core::after_access, crate::specs::Ends::load_end))]
     pub fn read(
         &mut self,
         base: u64,
@@ -223,7 +216,6 @@ impl Core {
 
     /// A store of the low bytes of a value. A split one keeps the bytes before the lowest outside RAM. An error is a
     /// data abort of a write, as a load's.
-    #[tactic(auto, unfolding(crate::specs::Memory::write_of, crate::specs::Memory::ram_after_write, crate::specs::Memory::translate_access_of, crate::specs::Core::after_access, crate::specs::Ends::store_end, crate::specs::Ends::store_ram_end), using(crate::proofs::Ram::len))]
     pub fn write(
         &mut self,
         base: u64,
@@ -272,7 +264,6 @@ impl Core {
 
     /// The instruction at va, by the fetch hint first: four bytes, never split. An error is an instruction abort at va.
     #[inline(always)]
-    #[tactic(auto, unfolding(crate::specs::Memory::fetch_of, crate::specs::Memory::translate_fetch_of, crate::specs::Core::after_access, crate::specs::Ends::fetch_end))]
     pub fn fetch(
         &mut self,
         base: u64,
@@ -305,7 +296,6 @@ impl Core {
 
     /// Where a fetch of va goes, by the same hint, which a new page refreshes.
     #[inline(always)]
-    #[tactic(auto, unfolding(crate::specs::Memory::fetch_pa_of, crate::specs::Memory::translate_fetch_of))]
     pub fn fetch_pa(&mut self, base: u64, ram: &[u8], va: u64, work: &mut Work) -> Option<u64>
         ensures core { record { core = self.new; answer = result } ≡ fetch_pa_of self.old (word_at base ram.now 8) va }
         ensures work { work.new ≡ fetch_work self.old (word_at base ram.now 8) va work.old }
@@ -315,7 +305,6 @@ impl Core {
 
     /// Where a data read of va goes.
     #[inline(always)]
-    #[tactic(auto, unfolding(crate::specs::Memory::data_pa_of, crate::specs::Memory::translate_of))]
     pub fn data_pa(&mut self, base: u64, ram: &[u8], va: u64, work: &mut Work) -> Option<u64>
         ensures core { record { core = self.new; answer = result } ≡ data_pa_of self.old (word_at base ram.now 8) va }
         ensures work { work.new ≡ translate_work self.old (word_at base ram.now 8) va Read work.old }

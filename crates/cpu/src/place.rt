@@ -1,7 +1,7 @@
 // Where the bytes of an access lie, and which of them lie outside RAM.
 ghost use Rattle.std.specs.Prelude.{◌≡◌, ◌≤◌};
-ghost use Rattle.cpu.specs.Place.{in_page, next_page, crosses as crosses_of, first_pa, byte_at};
-ghost use Rattle.cpu.specs.Place.{first_outside, first_part};
+ghost use Rattle.cpu.specs.Bytes.{in_page, next_page, crosses as crosses_of, first_pa, byte_at, first_outside};
+ghost use Rattle.cpu.specs.Bytes.{first_part};
 
 use fault::Fault;
 use word::ram;

@@ -1,7 +1,8 @@
 // Register writes, settings and abort entry on the core.
+#![tactic(auto, unfolding(crate::specs::System::refit_of, tlb::specs::Tlb::reshaped_of, tlb::specs::Tlb::retagged_of, crate::specs::System::after_register_write, crate::specs::System::applied_of, crate::specs::System::with_regs, crate::specs::Core::after_access, crate::specs::System::set_level, crate::specs::System::set_mark, crate::specs::System::abort_of))]
+
 ghost use Rattle.std.specs.Prelude.{◌≡◌};
-ghost use Rattle.cpu.specs.Fit.{refit_of};
-ghost use Rattle.cpu.specs.Registers.{after_register_write, set_level, set_mark, abort_of};
+ghost use Rattle.cpu.specs.System.{refit_of, after_register_write, set_level, set_mark, abort_of};
 
 use crate::Core;
 use exception::enter;
@@ -14,7 +15,6 @@ use tlb::Tlb;
 // What a register write does to the cache: where the shape changed, a flush; then, where the ASID differs from the
 // cache's, a retag.
 #[inline(always)]
-#[tactic(auto, unfolding(crate::specs::Fit::refit_of, tlb::specs::Maintenance::reshaped_of, tlb::specs::Maintenance::retagged_of))]
 fn refit(t: &mut Tlb, before: Control, after: Control)
     ensures { t.new ≡ refit_of t.old before after }
 {
@@ -30,7 +30,6 @@ fn refit(t: &mut Tlb, before: Control, after: Control)
 impl Core {
     /// A register write: the register, then the cache. One that is not done changes nothing.
     #[inline(always)]
-    #[tactic(auto, unfolding(crate::specs::Registers::after_register_write, crate::specs::Registers::applied_of, crate::specs::Registers::with_regs, crate::specs::Core::after_access))]
     pub fn write_reg(&mut self, key: u32, value: u64) -> Result<(), WriteError>
         ensures { record { core = self.new; answer = result } ≡ after_register_write self.old key value }
     {
@@ -47,7 +46,6 @@ impl Core {
     }
 
     /// The level is set.
-    #[tactic(auto, unfolding(crate::specs::Registers::set_level))]
     pub fn set_level(&mut self, level: u8)
         ensures { self.new ≡ set_level self.old level }
     {
@@ -55,7 +53,6 @@ impl Core {
     }
 
     /// The mark is set or cleared.
-    #[tactic(auto, unfolding(crate::specs::Registers::set_mark))]
     pub fn set_mark(&mut self, mark: bool)
         ensures { self.new ≡ set_mark self.old mark }
     {
@@ -64,7 +61,6 @@ impl Core {
 
     /// A synchronous exception at the PC is routed and taken.
     #[inline(always)]
-    #[tactic(auto, unfolding(crate::specs::Registers::abort_of))]
     pub fn take_sync(&mut self, e: Exception)
         ensures { self.new ≡ abort_of self.old e }
     {

@@ -1,7 +1,6 @@
 // Each operation's answer as a reply.
 ghost use Rattle.std.specs.Prelude.{◌≡◌};
-ghost use Rattle.cpu.specs.Check.{number_of};
-ghost use Rattle.cpu.specs.Replies.{translation, reaching, loading, storing, fetching, registering, refuses};
+ghost use Rattle.cpu.specs.Check.{number_of, translation, reaching, loading, storing, fetching, registering, refuses};
 ghost use Rattle.cpu.specs.declared.call.Reply.TheVariants.{Refused};
 
 use crate::call::Reply;

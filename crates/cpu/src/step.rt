@@ -9,10 +9,9 @@ use crate::{Core, check};
 use tlb::work::Work;
 use word::ram::Width;
 
+#[tactic(auto, unfolding(crate::specs::Step::run_of, crate::specs::Step::ram_of, crate::specs::Work::run_work, crate::specs::Step::step_of, crate::specs::Step::ram_after, crate::specs::Work::step_work))]
 impl Core {
     // The operation that a call is.
-    #[inline(always)]
-    #[tactic(auto, unfolding(crate::specs::Step::run_of, crate::specs::Step::ram_of, crate::specs::Work::run_work))]
     fn run(&mut self, base: u64, ram: &mut [u8], call: Call, work: &mut Work) -> Reply
         ensures core { record { core = self.new; reply = result } ≡ run_of self.old base ram.old call }
         ensures ram { ram.new ≡ ram_of self.old base ram.old call }
@@ -57,8 +56,6 @@ impl Core {
 
     /// The number of the first check that the call misses, and then nothing changes; else the operation. The
     /// descriptors that it reads are added to `work`.
-    #[inline(always)]
-    #[tactic(auto, unfolding(crate::specs::Step::step_of, crate::specs::Step::ram_after, crate::specs::Work::step_work))]
     pub fn step(&mut self, base: u64, ram: &mut [u8], call: Call, work: &mut Work) -> Reply
         ensures core { record { core = self.new; reply = result } ≡ step_of self.old base ram.old call }
         ensures ram { ram.new ≡ ram_after self.old base ram.old call }

@@ -1,9 +1,10 @@
 // System operations on the core. The descriptors that one reads are added to its `work`.
+#![tactic(auto, unfolding(crate::specs::System::at_of, crate::specs::System::with_par, crate::specs::Work::at_work, crate::specs::System::tlbi_core, tlb::specs::Tlb::invalidated_of, crate::specs::Core::after_access, crate::specs::System::sys_of, crate::specs::System::sys_ram, crate::specs::Work::sys_work), using(crate::proofs::ZeroLaws::zero_steps))]
+
 ghost use Rattle.std.specs.Prelude.{◌≡◌};
 ghost use Rattle.word.specs.Bits.{align_down};
 ghost use Rattle.word.specs.Ram.{word_at};
-ghost use Rattle.cpu.specs.System.{at_of, tlbi_core};
-ghost use Rattle.cpu.specs.System.{zero_of, zero_ram, sys_of, sys_ram};
+ghost use Rattle.cpu.specs.System.{at_of, tlbi_core, zero_of, zero_ram, sys_of, sys_ram};
 ghost use Rattle.cpu.specs.Work.{at_work, zero_work, sys_work};
 
 use crate::Core;
@@ -16,7 +17,6 @@ use word::ram::Width;
 impl Core {
     /// AT: a fresh walk into PAR_EL1.
     #[inline(always)]
-    #[tactic(auto, unfolding(crate::specs::System::at_of, crate::specs::System::with_par, crate::specs::Work::at_work))]
     pub fn at(&mut self, base: u64, ram: &[u8], form: AtForm, va: u64, work: &mut Work)
         ensures core { self.new ≡ at_of self.old (word_at base ram.now 8) form va }
         ensures work { work.new ≡ at_work self.old (word_at base ram.now 8) form va work.old }
@@ -28,7 +28,6 @@ impl Core {
     }
 
     /// TLBI; the Inner Shareable forms reach the other cores.
-    #[tactic(auto, unfolding(crate::specs::System::tlbi_core, tlb::specs::Maintenance::invalidated_of, crate::specs::Core::after_access))]
     pub fn tlbi(&mut self, e: Encoding, x: u64)
         ensures { self.new ≡ tlbi_core self.old e.op1 e.crm e.op2 x }
     {
@@ -40,7 +39,6 @@ impl Core {
     }
 
     // The n stores of a zeroing from va on, up to the first that stops.
-    #[tactic(auto, using(crate::proofs::Zeroing::zero_steps))]
     fn zero_from(
         &mut self,
         base: u64,
@@ -72,7 +70,6 @@ impl Core {
 
     /// A system operation.
     #[inline(always)]
-    #[tactic(auto, unfolding(crate::specs::System::sys_of, crate::specs::System::sys_ram, crate::specs::Work::sys_work))]
     pub fn sys(
         &mut self,
         base: u64,

@@ -1,4 +1,3 @@
 -- What the proofs share.
-pub mod Words
 pub mod EntryLaws
 pub mod FieldLaws

@@ -6,4 +6,3 @@ pub mod Route
 pub mod Entry
 -- Worked cases, and the same a second time, in numbers.
 pub mod Cases
-pub mod Tables

@@ -37,10 +37,6 @@ route_to_el2 o = o.level == 0 && (not (is_secure o) && tge o)
 abbrev pub default_target : Origin → Regime
 default_target o = if route_to_el2 o then El2 else regime_of o.level
 
--- HVC goes to EL2, and at EL3 to itself
-abbrev pub call_target : ℕ → Regime
-call_target level = if level == 3 then El3 else El2
-
 -- HVC is UNDEFINED where HCE is clear, and at Secure EL1. A16: not at EL0, where the manual has it so.
 abbrev pub hvc_undefined : Origin → Bool
 hvc_undefined o = not (hce o) || (o.level == 1 && is_secure o)
@@ -57,16 +53,11 @@ smc_undefined o = smd o
 abbrev pub generated : Origin → Exception → Exception
 generated o (Hvc imm) = if hvc_undefined o then Undefined else Hvc imm
 generated o (Smc imm) = if smc_undefined o then Undefined else Smc imm
-generated o Undefined = Undefined
-generated o (Svc imm) = Svc imm
-generated o (Brk imm) = Brk imm
-generated o (DataAbort a) = DataAbort a
-generated o (InsnAbort a) = InsnAbort a
-generated o PcAlignment = PcAlignment
+generated o e = e
 
--- target_el
+-- target_el: HVC goes to EL2, and at EL3 to itself
 abbrev pub target_el : Origin → Exception → Regime
-target_el o (Hvc imm) = call_target o.level
+target_el o (Hvc imm) = if o.level == 3 then El3 else El2
 target_el o (Smc imm) = if smc_trapped o then El2 else El3
 target_el o Undefined = default_target o
 target_el o (Svc imm) = default_target o
@@ -75,26 +66,16 @@ target_el o (DataAbort a) = default_target o
 target_el o (InsnAbort a) = default_target o
 target_el o PcAlignment = default_target o
 
--- ThisInstrAddr() and NextInstrAddr()
-abbrev pub this_instr : Origin → ℕ
-this_instr o = o.pc
-
-abbrev pub next_instr : Origin → ℕ
+-- NextInstrAddr()
+abbrev next_instr : Origin → ℕ
 next_instr o = wrap (o.pc + 4)
 
--- preferred_exception_return: past a call that is taken as one, else the instruction itself
+-- preferred_exception_return: past a call that is taken as one, else the instruction itself, ThisInstrAddr()
 abbrev pub return_address : Origin → Exception → ℕ
 return_address o (Svc imm) = next_instr o
 return_address o (Hvc imm) = next_instr o
-return_address o (Smc imm) = if smc_trapped o then this_instr o else next_instr o
-return_address o Undefined = this_instr o
-return_address o (Brk imm) = this_instr o
-return_address o (DataAbort a) = this_instr o
-return_address o (InsnAbort a) = this_instr o
-return_address o PcAlignment = this_instr o
-
-abbrev pub routed : Origin → Exception → Routed
-routed o x = record { exception = x; target = target_el o x; ret = return_address o x }
+return_address o (Smc imm) = if smc_trapped o then o.pc else next_instr o
+return_address o _ = o.pc
 
 unfoldable pub routed_to : Origin → Exception → Routed
-routed_to o e = routed o (generated o e)
+routed_to o e = let x = generated o e in record { exception = x; target = target_el o x; ret = return_address o x }

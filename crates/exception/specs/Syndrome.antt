@@ -1,6 +1,6 @@
 -- What an exception reports: DDI 0487, AArch64.ExceptionClass, AArch64.ReportException, and the layout of ESR_ELx, from knowledge of ARMv8.0: the
 -- document itself was not at hand. M16, O6 and the like are rows of docs/DIFFERENCES.md.
-use Rattle.std.specs.Prelude.{if◌then◌else◌, ℕ, ◌+◌, ◌*◌, ◌/◌, ◌%◌, ◌^◌, Bool, true, false, bit_or, nat_lt, Option, Some, None}
+use Rattle.std.specs.Prelude.{if◌then◌else◌, ℕ, ◌+◌, ◌*◌, ◌/◌, ◌%◌, ◌^◌, Bool, bit_or, nat_lt, Option, Some, None}
 use Rattle.word.specs.Bits.{flag}
 use Rattle.exception.specs.declared.kind.Exception.{Exception}
 use Rattle.exception.specs.declared.kind.Exception.TheVariants.{Undefined, Svc, Hvc, Smc, Brk, DataAbort, InsnAbort, PcAlignment}
@@ -40,28 +40,14 @@ iss_of PcAlignment = 0
 iss_of (DataAbort a) = data_status a.write a.fault.fsc
 iss_of (Brk imm) = imm
 
--- FAR_ELx is written for aborts and PC alignment. O12: for the others, where the manual leaves it UNKNOWN, it is kept.
-abbrev pub far_written : Exception → Bool
-far_written Undefined = false
-far_written (Svc imm) = false
-far_written (Hvc imm) = false
-far_written (Smc imm) = false
-far_written (InsnAbort a) = true
-far_written PcAlignment = true
-far_written (DataAbort a) = true
-far_written (Brk imm) = false
-
--- its value: the address of the access, or the PC
-abbrev pub far_of : ℕ → Exception → ℕ
-far_of pc Undefined = 0
-far_of pc (Svc imm) = 0
-far_of pc (Hvc imm) = 0
-far_of pc (Smc imm) = 0
-far_of pc (InsnAbort a) = a.addr
-far_of pc PcAlignment = pc
-far_of pc (DataAbort a) = a.addr
-far_of pc (Brk imm) = 0
+-- FAR_ELx is written for aborts, with the address of the access, and for PC alignment, with the PC. O12: for the others, where the manual leaves it
+-- UNKNOWN, it is kept.
+abbrev pub far_of : ℕ → Exception → Option ℕ
+far_of pc (InsnAbort a) = Some a.addr
+far_of pc (DataAbort a) = Some a.addr
+far_of pc PcAlignment = Some pc
+far_of pc _ = None
 
 -- ESR_ELx and any FAR_ELx of an exception at the PC, taken from one level to another
 unfoldable pub syndrome_of : Exception → ℕ → ℕ → ℕ → ℕ × Option ℕ
-syndrome_of e from to pc = (esr_of (class_of (nat_lt from to) e) (iss_of e), if far_written e then Some (far_of pc e) else None)
+syndrome_of e from to pc = (esr_of (class_of (nat_lt from to) e) (iss_of e), far_of pc e)

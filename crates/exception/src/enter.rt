@@ -23,7 +23,7 @@ pub fn vector_group(from: u8, to: u8, spsel: bool) -> u64
 
 // The target level's register, where a value is given.
 #[inline(always)]
-#[tactic(auto, using(sysreg::proofs::Stores::four))]
+#[tactic(auto, using(sysreg::proofs::WriteLaws::four))]
 fn update(bank: &mut [u64; 4], target: Regime, value: Option<u64>)
     ensures { bank.new ≡ updated target value bank.old }
 {
@@ -35,7 +35,7 @@ fn update(bank: &mut [u64; 4], target: Regime, value: Option<u64>)
 /// Exception entry to AArch64 at `target` (DDI 0487, D1.10.2): `kind` is the vector's offset in its group, `ret` the
 /// address that it returns to.
 #[inline(always)]
-#[tactic(auto, unfolding(crate::specs::Entry::enter_of, crate::specs::Entry::entered_sys), using(sysreg::proofs::Stores::four))]
+#[tactic(auto, unfolding(crate::specs::Entry::enter_of, crate::specs::Entry::entered_sys), using(sysreg::proofs::WriteLaws::four))]
 pub fn enter(
     level: &mut u8,
     flags: &mut Flags,

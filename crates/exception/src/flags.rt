@@ -29,7 +29,7 @@ impl Flags {
     }
 
     /// `PSTATE` in `SPSR` layout (AArch64): NZCV, DAIF, `M[3:0]` = EL:SP. Of the level two bits count.
-    #[tactic(auto, using(crate::proofs::Words::psr_word))]
+    #[tactic(auto, using(crate::proofs::FieldLaws::psr_word))]
     pub fn pstate(self, level: u8) -> u64
         ensures { result ≡ spsr_of level self }
     {

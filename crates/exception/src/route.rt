@@ -23,6 +23,7 @@ pub struct Routed {
     pub ret: u64,
 }
 
+#[tactic(auto, using(word::proofs::RamLaws::mask_bit))]
 impl Origin {
     fn is_secure(self) -> bool
         ensures { result ≡ is_secure self }
@@ -31,7 +32,6 @@ impl Origin {
     }
 
     // The level itself, EL1 for EL0; HCR_EL2.TGE takes the exceptions of Non-secure EL0 to EL2.
-    #[tactic(auto, using(crate::proofs::Words::control_bits))]
     fn default_target(self) -> Regime
         ensures { result ≡ default_target self }
     {
@@ -45,14 +45,12 @@ impl Origin {
     }
 
     // HVC is UNDEFINED without SCR_EL3.HCE, and at Secure EL1.
-    #[tactic(auto, using(crate::proofs::Words::control_bits))]
     fn hvc_undefined(self) -> bool
         ensures { result ≡ hvc_undefined self }
     {
         self.scr_el3 & SCR_HCE == 0 || (self.level == 1 && self.is_secure())
     }
 
-    #[tactic(auto, using(crate::proofs::Words::control_bits))]
     fn smc_undefined(self) -> bool
         ensures { result ≡ smc_undefined self }
     {
@@ -60,7 +58,6 @@ impl Origin {
     }
 
     // HCR_EL2.TSC traps SMC of Non-secure EL1.
-    #[tactic(auto, using(crate::proofs::Words::control_bits))]
     fn smc_trapped(self) -> bool
         ensures { result ≡ smc_trapped self }
     {

@@ -19,7 +19,7 @@ pub const EC_BRK64: u8 = 0x3C;
 pub const ESR_IL: u64 = 1 << 25;
 
 // `ESR_ELx`: the class in bits 31 to 26, IL, and the syndrome.
-#[tactic(auto, using(crate::proofs::Words::esr_joined))]
+#[tactic(auto, using(crate::proofs::FieldLaws::esr_joined))]
 fn esr(class: u8, iss: u16) -> u64
     ensures { result ≡ esr_of class iss }
 {
@@ -29,7 +29,7 @@ fn esr(class: u8, iss: u16) -> u64
 impl Exception {
     /// `ESR_ELx` and any `FAR_ELx` for this exception (DDI 0487, D17.2.37), taken from one level to another.
     #[inline(always)]
-    #[tactic(auto, unfolding(crate::specs::Syndrome::syndrome_of), using(crate::proofs::Words::status_word))]
+    #[tactic(auto, unfolding(crate::specs::Syndrome::syndrome_of), using(crate::proofs::FieldLaws::status_word))]
     pub fn syndrome(self, from: u8, to: u8, pc: u64) -> (u64, Option<u64>)
         ensures { result ≡ syndrome_of self from to pc }
     {

@@ -1,12 +1,9 @@
 -- The masks of the registers that keep some bits only.
 use Rattle.std.proofs.lemmas.Grind.{common_steps}
-use Rattle.std.proofs.Common.{arith}
-use mathlib.Core.Path.{◌≡◌, refl, sym, ap, ap₂, ◌∙◌}
-use Prim.Native.Nat.{ℕ, ◌+◌, ◌-◌, ◌*◌, ◌/◌, ◌%◌, ◌^◌, ◌<◌}
-use native.Mathlib.Nat.{add_assoc, mod-eq_of_lt, mod-lt, lt_of_le_of_lt}
+use Rattle.std.proofs.Common.{◌≡◌, refl, sym, ap, ap₂, ◌∙◌, ℕ, ◌+◌, ◌-◌, ◌*◌, ◌/◌, ◌%◌, ◌^◌, ◌<◌, arith, lit≤, add_assoc, mod-eq_of_lt, mod-lt, pow_pos}
+use native.Mathlib.Nat.{lt_of_le_of_lt}
 use lib.Bits.{bit_and, and_mask, and_shr, and_mod, and_le_r}
-use lib.Pow.{split, pow_pos}
-use Rattle.std.proofs.Common.{lit≤}
+use lib.Pow.{split}
 use Rattle.std.proofs.lemmas.Nat.Bits.{and_high_mask}
 use Rattle.word.specs.Bits.{align_down}
 use Rattle.sysreg.specs.declared.regs.Register.{Register}

@@ -2,6 +2,5 @@
 pub mod Regs
 pub mod Encoding
 pub mod Write
-pub mod Tcr
 pub mod Shape
 pub mod Cases

@@ -1,12 +1,60 @@
--- What of the registers shapes a translation, and the ASID of the EL1&0 regime.
-use Rattle.std.specs.Prelude.{if◌then◌else◌, ◌≡◌, Bool, true, false, not, ◌&&◌, ◌||◌, List, [], ◌∷◌, ℕ, eqb, get_or, Some, Option, None}
-use Rattle.word.specs.Bits.{field}
+-- The fields of TCR_ELx that stage 1 reads, by the manual's names: DDI 0487, TCR_EL1, TCR_EL2 and TCR_EL3 of ARMv8.0.
+-- Written from knowledge of the manual; the document itself was not at hand. `theorems::places_in_tcr` has the bits of each field.
+use Rattle.std.specs.Prelude.{Bool, ℕ, ◌%◌, ◌^◌, if◌then◌else◌, ◌≡◌, true, false, not, ◌&&◌, ◌||◌, List, [], ◌∷◌, eqb, get_or, Some, Option, None}
+use Rattle.word.specs.Bits.{bit_on, field}
 use Rattle.sysreg.specs.declared.{regs.Control.Control, regs.Regime.Regime, regs.Register.Register}
 use Rattle.sysreg.specs.declared.regs.Regime.TheVariants.{El1, El2, El3}
 use Rattle.sysreg.specs.declared.regs.Register.TheVariants.{Sctlr, Tcr, Ttbr0, Ttbr1, Scr, Hcr}
 use Rattle.sysreg.specs.Regs.{control_at}
 use Rattle.sysreg.specs.Encoding.{key_of}
-use Rattle.sysreg.specs.Tcr.{a1, «as»}
+
+-- T0SZ and TG0 stand at the same place in all three: TCR_ELx<5:0> and TCR_ELx<15:14>
+abbrev pub t0sz : ℕ → ℕ
+t0sz tcr = tcr % 2 ^ 6
+
+abbrev pub tg0 : ℕ → ℕ
+tg0 tcr = field tcr 14 2
+
+-- TCR_EL1 alone. EPD0 and EPD1 forbid walks by TTBR0_EL1 and TTBR1_EL1
+abbrev pub epd0 : ℕ → Bool
+epd0 tcr = bit_on tcr 7
+
+abbrev pub t1sz : ℕ → ℕ
+t1sz tcr = field tcr 16 6
+
+-- TTBR1_EL1, and not TTBR0_EL1, holds the ASID
+abbrev pub a1 : ℕ → Bool
+a1 tcr = bit_on tcr 22
+
+abbrev pub epd1 : ℕ → Bool
+epd1 tcr = bit_on tcr 23
+
+abbrev pub tg1 : ℕ → ℕ
+tg1 tcr = field tcr 30 2
+
+-- the code of the output address size
+abbrev pub ips : ℕ → ℕ
+ips tcr = field tcr 32 3
+
+-- an ASID has 16 bits, and not 8
+abbrev pub «as» : ℕ → Bool
+«as» tcr = bit_on tcr 36
+
+-- the top byte of an address is ignored, in the lower and in the upper range
+abbrev pub tbi0 : ℕ → Bool
+tbi0 tcr = bit_on tcr 37
+
+abbrev pub tbi1 : ℕ → Bool
+tbi1 tcr = bit_on tcr 38
+
+-- TCR_EL2 and TCR_EL3: the code of the output address size, and the top byte ignored
+abbrev pub ps : ℕ → ℕ
+ps tcr = field tcr 16 3
+
+abbrev pub tbi : ℕ → Bool
+tbi tcr = bit_on tcr 20
+
+-- What of the registers shapes a translation, and the ASID of the EL1&0 regime.
 
 -- The registers that shape translations: all that translation reads but TTBR0_EL1 and TTBR1_EL1, which an ASID tells apart.
 abbrev pub shape : List Register

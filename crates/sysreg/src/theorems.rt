@@ -4,18 +4,17 @@ ghost use Rattle.std.specs.Prelude.{◌≡◌, ℕ, ◌^◌, ◌≤◌, ◌<◌,
 ghost use Rattle.word.specs.Places.{bits, bit, FieldAt, BitAt};
 ghost use Rattle.sysreg.specs.Regs.{control_at, sys_at, reg_at, in_control, fresh_control, fresh_sys};
 ghost use Rattle.sysreg.specs.Encoding.{encode, key_word, key_of, at_each, register_at};
-ghost use Rattle.sysreg.specs.Tcr.{t0sz, tg0, epd0, t1sz, a1, epd1, tg1, ips, «as», tbi0, tbi1, ps, tbi};
+ghost use Rattle.sysreg.specs.Shape.{t0sz, tg0, epd0, t1sz, a1, epd1, tg1, ips, «as», tbi0, tbi1, ps, tbi};
+ghost use Rattle.sysreg.specs.Shape.{outside_shape, same_shape, asid_of, SameShape};
 ghost use Rattle.sysreg.specs.Write.{kept, control_with, ended, wrote, write_reg};
-ghost use Rattle.sysreg.specs.Shape.{outside_shape, same_shape, asid_of};
-ghost use Rattle.sysreg.specs.Shape.{SameShape};
 ghost use Rattle.sysreg.specs.Cases.{control_registers, system_registers, keeps_fresh_shape, asids_under};
 ghost use Rattle.sysreg.specs.declared.regs.Regime.{Regime};
 ghost use Rattle.sysreg.specs.declared.regs.Regime.TheVariants.{El1};
 ghost use Rattle.sysreg.specs.declared.regs.Control.{Control};
 ghost use Rattle.sysreg.specs.declared.regs.SysRegs.{SysRegs};
 ghost use Rattle.sysreg.specs.declared.regs.Register.{Register};
-ghost use Rattle.sysreg.specs.declared.regs.Register.TheVariants.{Sctlr, Tcr, Ttbr0, Ttbr1, Hcr, Scr};
-ghost use Rattle.sysreg.specs.declared.regs.Register.TheVariants.{Mair, Vbar, Elr, Spsr, Esr, Far, Vpidr, Vmpidr, Par};
+ghost use Rattle.sysreg.specs.declared.regs.Register.TheVariants.{Sctlr, Tcr, Ttbr0, Ttbr1, Hcr, Scr, Mair, Vbar, Elr};
+ghost use Rattle.sysreg.specs.declared.regs.Register.TheVariants.{Spsr, Esr, Far, Vpidr, Vmpidr, Par};
 ghost use Rattle.sysreg.specs.declared.write.WriteError.TheVariants.{Undefined, NoRegister};
 
 // Where each field of TCR_ELx lies, of every word. It rules out a field that code and definition both read at a wrong
@@ -100,6 +99,7 @@ pub fn shape_after_writes()
 
 // The ASID: of TTBR1_EL1 where TCR_EL1.A1 (bit 22) is 1, and else of TTBR0_EL1; its bits 63:48 where TCR_EL1.AS
 // (bit 36) is 1, and else 55:48. It rules out the ASID of the other register, and 8 bits from the top.
+#[tactic(auto, unfolding(crate::specs::Shape::asid_of, crate::specs::Shape::asid_base))]
 pub fn asids_of_settings()
     ensures upper_wide { (c : Control)
         → bit (control_at c (Tcr El1)) 22 ≡ true → bit (control_at c (Tcr El1)) 36 ≡ true

@@ -17,7 +17,7 @@ pub enum WriteError {
 /// `MSR`: a key that names no register kept is refused; else EL0 may write none; else the register is written, of
 /// VBAR, SPSR, ESR and VPIDR_EL2 the bits that are not RES0. A write that is refused changes nothing.
 #[inline(always)]
-#[tactic(auto, using(crate::proofs::Stores::four, crate::proofs::Masks::masks), unfolding(crate::specs::Write::write_reg, crate::specs::Write::control_with, crate::specs::Write::sys_with))]
+#[tactic(auto, using(crate::proofs::WriteLaws::four, crate::proofs::Masks::masks), unfolding(crate::specs::Write::write_reg, crate::specs::Write::control_with, crate::specs::Write::sys_with))]
 pub fn write_reg(
     control: &mut Control,
     sys: &mut SysRegs,

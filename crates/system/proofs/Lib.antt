@@ -1,5 +1,1 @@
 pub mod Words
-pub mod Pars
-pub mod DecodeLaws
-pub mod TlbiLaws
-pub mod ParLaws

@@ -16,50 +16,31 @@ pub data Name : Type 0 where
   TLBI : Name
   unallocated accepted : Name
 
--- a translation as a regime's own level reads and writes, and as EL0 does
-abbrev reads : Regime → SysOp
-reads r = At (record { regime = r; user = false; write = false })
-
-abbrev writes : Regime → SysOp
-writes r = At (record { regime = r; user = false; write = true })
-
-abbrev user_reads : SysOp
-user_reads = At (record { regime = El1; user = true; write = false })
-
-abbrev user_writes : SysOp
-user_writes = At (record { regime = El1; user = true; write = true })
+-- a translation: its regime, whether as EL0, and whether for a write
+abbrev pub at : Regime → Bool → Bool → SysOp
+at r user write = At (record { regime = r; user = user; write = write })
 
 -- What each is here. M3: there is no stage 2, so S12 is S1. M6: cache maintenance does nothing, and by address
 -- translates nothing.
 abbrev pub operation : Name → SysOp
-operation AT-S1E1R = reads El1
-operation AT-S1E1W = writes El1
-operation AT-S1E0R = user_reads
-operation AT-S1E0W = user_writes
-operation AT-S1E2R = reads El2
-operation AT-S1E2W = writes El2
-operation AT-S12E1R = reads El1
-operation AT-S12E1W = writes El1
-operation AT-S12E0R = user_reads
-operation AT-S12E0W = user_writes
-operation AT-S1E3R = reads El3
-operation AT-S1E3W = writes El3
+operation AT-S1E1R = at El1 false false
+operation AT-S1E1W = at El1 false true
+operation AT-S1E0R = at El1 true false
+operation AT-S1E0W = at El1 true true
+operation AT-S1E2R = at El2 false false
+operation AT-S1E2W = at El2 false true
+operation AT-S12E1R = at El1 false false
+operation AT-S12E1W = at El1 false true
+operation AT-S12E0R = at El1 true false
+operation AT-S12E0W = at El1 true true
+operation AT-S1E3R = at El3 false false
+operation AT-S1E3W = at El3 false true
 operation DC-ZVA = Zva
-operation DC-CVAC = Nothing
-operation DC-CVAU = Nothing
-operation DC-CIVAC = Nothing
-operation IC-IVAU = Nothing
-operation DC-IVAC = Nothing
-operation DC-ISW = Nothing
-operation DC-CSW = Nothing
-operation DC-CISW = Nothing
-operation IC-IALLU = Nothing
-operation IC-IALLUIS = Nothing
 operation TLBI = Tlbi
 -- M11: UNDEFINED in the manual
 operation unallocated = Unimplemented
--- M19: UNDEFINED in the manual
-operation accepted = Nothing
+-- the other DC and IC; M19: and what is accepted beside them, UNDEFINED in the manual
+operation _ = Nothing
 
 -- a field of an encoding: one number, or every number
 pub data Field : Type 0 where
@@ -165,11 +146,7 @@ pub record TlbiFields (op1 crn : ℕ) : Type 0 where
   pub crn-8 : crn ≡ 8
   pub whose : (op1 ≡ 0) ⊎ ((op1 ≡ 4) ⊎ (op1 ≡ 6))
 
--- what is found by the encoding of each row
+-- the number of a field, and 0 for any
 abbrev pub number : Field → ℕ
 number (only n) = n
 number any = 0
-
-abbrev pub looked_up : List Row → List Row
-looked_up [] = []
-looked_up (r ∷ rs) = look_up table r.op1 r.crn (number r.crm) (number r.op2) ∷ looked_up rs

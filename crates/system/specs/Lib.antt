@@ -2,10 +2,6 @@
 pub mod Decode
 pub mod Tlbi
 pub mod Par
--- Worked cases, and the encodings by mnemonic.
+-- Worked cases, and the encodings by mnemonic, a second time and in numbers.
 pub mod Cases
-pub mod Places
--- The same a second time, in numbers.
 pub mod Levels
-pub mod Drops
-pub mod Translations

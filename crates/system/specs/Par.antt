@@ -3,15 +3,12 @@
 use Rattle.std.specs.Prelude.{if◌then◌else◌, ◌≡◌, Bool, true, false, not, ◌||◌, ℕ, ◌+◌, ◌*◌, ◌^◌, Option, Ok, Err}
 use Rattle.word.specs.Bits.{bit_on, field, flag}
 use Rattle.sysreg.specs.declared.regs.Control.{Control}
-use Rattle.walk.specs.Regime.{bank_of, non_secure, wxn_of}
+use Rattle.walk.specs.Regime.{bank_of, non_secure, wxn_of, untagged}
 use Rattle.sysreg.specs.Regs.{single_priv}
 use Rattle.walk.specs.Descriptor.{attr_indx, ns, sh}
 use Rattle.walk.specs.Table.{Translation, Result, mapped, faults, status_of}
 use Rattle.walk.specs.Permission.{Access, reading, writing, allowed}
-use Rattle.walk.specs.Flat.{flat_by}
-use Rattle.walk.specs.Fresh.{fresh_of}
-use Rattle.walk.specs.Tag.{untagged}
-use Rattle.walk.specs.Walk.{walk_of}
+use Rattle.walk.specs.Walk.{flat_by, fresh_of, walk_of}
 use Rattle.walk.specs.declared.{regime.Bank.Bank, level.Leaf.Leaf, fresh.Fresh.Fresh}
 use Rattle.sysreg.specs.declared.regs.Regime.{Regime}
 use Rattle.sysreg.specs.declared.regs.Regime.TheVariants.{El1, El2, El3}
@@ -23,32 +20,14 @@ use Rattle.system.specs.declared.decode.AtForm.{AtForm}
 use Rattle.walk.specs.Answers.{Walked}
 
 -- F is 0: ATTR<63:56>, PA<47:12>, bit 11 RES1, NS<9>, SH<8:7>
-pub record Translated : Type 0 where
-  pub attr : ℕ
-  pub pa : ℕ
-  pub nonsecure : Bool
-  pub shareability : ℕ
-
-abbrev pub translated : Translated → ℕ
-translated p =
-    p.attr * 2 ^ 56 + field p.pa 12 36 * 2 ^ 12 + 2 ^ 11 + flag p.nonsecure (2 ^ 9) + p.shareability * 2 ^ 7
-
--- F is 1: bit 11 RES1, S<9>, PTW<8>, FST<6:1>
-pub record Faulted : Type 0 where
-  pub s : Bool
-  pub ptw : Bool
-  pub fst : ℕ
-
-abbrev pub faulted : Faulted → ℕ
-faulted p = 2 ^ 11 + flag p.s (2 ^ 9) + flag p.ptw (2 ^ 8) + p.fst * 2 ^ 1 + 1
-
 unfoldable pub success : ℕ → ℕ → Bool → ℕ → ℕ
-success attr pa nonsecure shareability = translated (record { attr = attr; pa = pa; nonsecure = nonsecure; shareability = shareability })
+success attr pa nonsecure shareability =
+    attr * 2 ^ 56 + field pa 12 36 * 2 ^ 12 + 2 ^ 11 + flag nonsecure (2 ^ 9) + shareability * 2 ^ 7
 
--- M3: without stage 2 the fault is of stage 1, so S and PTW are 0. A1: a walk's external abort is reported here and not
--- taken.
+-- F is 1: bit 11 RES1, FST<6:1>. M3: without stage 2 the fault is of stage 1, so S<9> and PTW<8> are 0. A1: a walk's
+-- external abort is reported here and not taken.
 unfoldable pub abort : ℕ → ℕ
-abort status = faulted (record { s = false; ptw = false; fst = status })
+abort status = 2 ^ 11 + status * 2 ^ 1 + 1
 
 -- MAIR_ELx.Attr<n>. O9: as it stands.
 abbrev pub mair_attr : ℕ → ℕ → ℕ
@@ -97,7 +76,7 @@ unfoldable pub at_par : Control → ℕ → AtForm → ℕ → (ℕ → Option �
 at_par c mair f va memory = par_in (bank_of c f.regime) mair f va memory
 
 -- PAR_EL1 by the manual's own walk and permission check, AArch64.TranslationTableWalk and AArch64.CheckPermission:
--- `manual-par` of ParLaws has the two equal
+-- `manual-par` of proofs/Words.antt has the two equal
 abbrev pub access_of : Bool → Access
 access_of true = writing
 access_of false = reading

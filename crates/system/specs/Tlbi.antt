@@ -4,7 +4,7 @@
 use Rattle.std.specs.Prelude.{if◌then◌else◌, Bool, true, false, ◌&&◌, List, [], ◌∷◌, ◌++◌, ℕ, ◌==◌}
 use Rattle.word.specs.Bits.{field}
 use Rattle.sysreg.specs.Regs.{control_at}
-use Rattle.sysreg.specs.Tcr.{tg0, tg1, «as»}
+use Rattle.sysreg.specs.Shape.{tg0, tg1, «as»}
 use Rattle.sysreg.specs.declared.regs.Control.{Control}
 use Rattle.sysreg.specs.declared.regs.Register.TheVariants.{Tcr}
 use Rattle.sysreg.specs.declared.regs.Regime.{Regime}
@@ -26,26 +26,19 @@ pub data Scope : Type 0 where
 
 -- What each names here, which is at least what the manual has it name: an address in every ASID and at every level
 -- (VAA, VAL and VAAL are VA), and everything for what names a regime or a stage. M20: IPAS2E1 and IPAS2LE1 name an
--- intermediate physical address of stage 2, which is not there (M3); they too drop everything.
+-- intermediate physical address of stage 2, which is not there (M3); they too drop everything, and so does what is not
+-- allocated (M9: UNDEFINED in the manual).
 abbrev pub scope : Instruction → Scope
-scope VMALLE1 = everything
 scope VAE1 = ranged El1
 scope ASIDE1 = asid_form
 scope VAAE1 = ranged El1
 scope VALE1 = ranged El1
 scope VAALE1 = ranged El1
-scope ALLE2 = everything
 scope VAE2 = ranged El2
-scope ALLE1 = everything
 scope VALE2 = ranged El2
-scope VMALLS12E1 = everything
-scope IPAS2E1 = everything
-scope IPAS2LE1 = everything
-scope ALLE3 = everything
 scope VAE3 = ranged El3
 scope VALE3 = ranged El3
--- M9: UNDEFINED in the manual
-scope unallocated = everything
+scope _ = everything
 
 pub record TlbiForm : Type 0 where
   pub name : Instruction
@@ -122,12 +115,3 @@ tlbi_of c op1 crm op2 x = what_of c x (scope_of op1 crm op2)
 -- have CRm 0.
 abbrev pub reaches_others : ℕ → Bool
 reaches_others crm = crm == 3
-
--- which forms of a list are Inner Shareable, and which reach the other cores
-abbrev pub shareables : List TlbiForm → List Bool
-shareables [] = []
-shareables (r ∷ rs) = r.shareable ∷ shareables rs
-
-abbrev pub reaching : List TlbiForm → List Bool
-reaching [] = []
-reaching (r ∷ rs) = reaches_others r.crm ∷ reaching rs

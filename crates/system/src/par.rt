@@ -1,7 +1,7 @@
 // PAR_EL1 after an AT. It walks afresh: no cache stands here.
 ghost use Rattle.std.specs.Prelude.{◌≡◌, ◌<◌, ◌≤◌};
 ghost use Rattle.word.specs.Ram.{word_at};
-ghost use Rattle.walk.specs.Fetches.{fresh_reads};
+ghost use Rattle.walk.specs.Walk.{fresh_reads};
 ghost use Rattle.walk.specs.Regime.{bank_of};
 ghost use Rattle.system.specs.Par.{success, abort, leaf_par, at_par};
 
@@ -54,7 +54,7 @@ fn leaf_par(mair: u64, ns: bool, form: AtForm, leaf: Leaf) -> u64
 /// PAR_EL1 after an AT of the form at `va`, stage 1 alone (DDI 0487, D17.2.113), and the number of descriptors that its
 /// walk reads; `mair` is the regime's. It never uses or fills the cache.
 #[inline(always)]
-#[tactic(auto, unfolding(crate::specs::Par::at_par, crate::specs::Par::par_in), using(crate::proofs::Pars::low_leaf))]
+#[tactic(auto, unfolding(crate::specs::Par::at_par, crate::specs::Par::par_in), using(crate::proofs::Words::low_leaf))]
 pub fn at(control: &Control, mair: u64, form: AtForm, va: u64, base: u64, ram: &[u8]) -> (u64, u8)
     ensures par { result.0 ≡ at_par control.now mair form va (word_at base ram.now 8) }
     ensures reads { result.1

@@ -1,28 +1,19 @@
 -- Each operation on the cache does to the plain model what the requirement says, and keeps the cache well-formed.
-use Rattle.std.proofs.Common.{rules}
+use Rattle.std.proofs.Common.{refl, ap, rules, ◌∙◌, arith, length-set}
 use Rattle.std.specs.Prelude.{if◌then◌else◌, ◌≡◌, ℕ, ◌+◌, ◌*◌, ◌/◌, ◌%◌, ◌^◌, ◌<◌, ◌≤◌, List, map, length, ◌==◌, None, slice_index_or, slice_set}
-use Rattle.std.proofs.Math.Path.{refl, ap, subst}
-use Rattle.std.proofs.Common.{sym, ◌∙◌, arith, length-set}
 use Rattle.std.proofs.lemmas.List.{length-map}
 use Rattle.std.proofs.Math.ListN.{length-replicate, get_or-map}
 use Rattle.sysreg.specs.declared.regs.Regime.{Regime}
-use Rattle.tlb.specs.Entry.{blank, slot_of, serves, stamped, named, page_dropped, walked_for, asid_dropped}
-use Rattle.tlb.specs.Hint.{no_hint}
-use Rattle.tlb.specs.Lists.{Each}
-use Rattle.tlb.proofs.Lists.{each_map, each-imp, each_set, each-getD, each-replicate, replicate-at, get_d_set}
-use Rattle.tlb.specs.Count.{more, no_tallies}
-use Rattle.tlb.specs.Tlb.{blanks, no_hints, fresh, entry_at, hintless, put_of, flush_of, drop_page_of, drop_asid_of}
-use Rattle.tlb.specs.Tlb.{retag_of, invalidate_of, broadcast_of}
+use Rattle.tlb.specs.Tlb.{blank, slot_of, serves, stamped, page_dropped, asid_dropped, no_hint, more, no_tallies, blanks, no_hints, fresh, entry_at}
+use Rattle.tlb.specs.Tlb.{hintless, put_of, flush_of, drop_page_of, drop_asid_of, retag_of, invalidate_of, broadcast_of}
+use Rattle.tlb.specs.Live.{Each, line_in, line_of, hint_of, fetch_hint_of, pending_of, lines_of, hints_of, counters_of, live, Made, Aligned}
+use Rattle.tlb.specs.Live.{WellFormed}
+use Rattle.tlb.proofs.Cells.{found, each_map, each-imp, each_set, each-getD, each-replicate, replicate-at, get_d_set, regime-low, line_made}
+use Rattle.tlb.proofs.Cells.{page-drops, asid-drops, all-covered, flush-drops}
 use Rattle.sysreg.specs.Regs.{index_of}
 use Rattle.tlb.specs.Model.{Slot, empty, holds, Line, empty_model, uncovered, invalidate, retag, broadcast, line_for, keep}
-use Rattle.tlb.specs.Live.{line_in, line_of, hint_of, fetch_hint_of, pending_of, lines_of, hints_of, counters_of, live, Made, Aligned, FetchAligned, WellFormed}
-use Rattle.tlb.proofs.Cells.{if-ap, same-pick, regime-low, found, line_made, page-drops, asid-drops, all-covered, flush-drops}
 use Rattle.tlb.specs.declared.{entry.Entry.Entry, Tlb.Tlb, Inval.Inval}
 use Rattle.tlb.specs.declared.Inval.TheVariants.{All, Page, Asid}
-
-pub well : (t : Tlb) → 1 ≤ t.generation → t.generation < 2 ^ 32 → length t.entries ≡ 1024 → length t.hints ≡ 512 → length t.levels ≡ 4
-    → Each (Made t.generation) t.entries → Each Aligned t.hints → FetchAligned t.fetch → WellFormed t
-well t a b c d e f g h = record { first = a; last = b; slots = c; places = d; levels = e; entries = f; hints = g; fetch = h }
 
 -- WITHOUT HINTS
 
@@ -41,17 +32,7 @@ blank-made g = record { early = omega arith; aligned = refl; level = omega arith
 module _ (t : Tlb) (f : t.fetch ≡ None) (h : t.hints ≡ no_hints) where
   cleared-well : 1 ≤ t.generation → t.generation < 2 ^ 32 → length t.entries ≡ 1024 → length t.levels ≡ 4 → Each (Made t.generation) t.entries → WellFormed t
   unfolding no_hints
-  cleared-well first last slots levels entries =
-      record {
-        first = first;
-        last = last;
-        slots = slots;
-        places = ap length h ∙ length-replicate 512 no_hint;
-        levels = levels;
-        entries = entries;
-        hints = subst (Each Aligned) (sym h) (each-replicate Aligned no_hint refl 512);
-        fetch = subst FetchAligned (sym f) tt;
-      }
+  cleared-well first last slots levels entries = grind (arith, length-replicate, each-replicate Aligned no_hint refl 512)
 
   cleared-live : (ls : ℕ → Slot Line) → ((i : ℕ) → lines_of t.generation t.entries i ≡ ls i)
       → live t ≡ record { asid = t.asid; lines = ls; hints = λ i. empty; fetch = empty; counts = counters_of t; pending = pending_of t.broadcast }
@@ -62,24 +43,9 @@ blank-lines : (i : ℕ) → lines_of 1 blanks i ≡ empty
 unfolding lines_of line_of
 blank-lines i = grind (arith, blanks_at)
 
-blanks-long : length blanks ≡ 1024
-unfolding blanks
-blanks-long = length-replicate 1024 blank
-
-blanks-made : (g : ℕ) → Each (Made g) blanks
-unfolding blanks
-blanks-made g = each-replicate (Made g) blank (blank-made g) 1024
-
--- NEW
-
-no-counts : counters_of fresh ≡ empty_model.counts
-unfolding no_tallies
-no-counts = grind arith
-
 pub fresh-live : live fresh ≡ empty_model
-fresh-live =
-    cleared-live fresh refl refl (λ i. empty) blank-lines
-    ∙ λ n. record { asid = 0; lines = λ i. empty; hints = λ i. empty; fetch = empty; counts = no-counts n; pending = empty }
+unfolding no_tallies
+fresh-live = cleared-live fresh refl refl (λ i. empty) blank-lines ∙ grind arith
 
 pub fresh-sound : WellFormed fresh
 unfolding no_tallies no_hints blanks
@@ -88,19 +54,18 @@ fresh-sound = search (rules, length-replicate, each-replicate, blank-made)
 -- INVALIDATIONS
 
 -- a map over the entries that drops just what is covered
-module _ (what : Inval) (g : ℕ) (f : Entry → Entry) (es : List Entry) where
-  mapped-lines : f blank ≡ blank → ((e : Entry) → line_of g (f e) ≡ uncovered what (line_of g e)) → (i : ℕ)
-      → lines_of g (map f es) i ≡ uncovered what (lines_of g es i)
-  unfolding lines_of
-  mapped-lines b q i = ap (line_of g) (rw b at (get_or-map f es i blank)) ∙ q (slice_index_or es i blank)
+mapped-lines : (what : Inval) (g : ℕ) (f : Entry → Entry) (es : List Entry) → f blank ≡ blank
+    → ((e : Entry) → line_of g (f e) ≡ uncovered what (line_of g e)) → (i : ℕ) → lines_of g (map f es) i ≡ uncovered what (lines_of g es i)
+unfolding lines_of
+mapped-lines what g f es b q i = grind (arith, get_or-map f es i blank)
 
 page-blank : (g page : ℕ) → page_dropped g page blank ≡ blank
 unfolding page_dropped
-page-blank g page = same-pick (named g page blank) blank
+page-blank g page = grind arith
 
 asid-blank : (asid : ℕ) → asid_dropped asid blank ≡ blank
 unfolding asid_dropped
-asid-blank asid = same-pick (walked_for asid blank) blank
+asid-blank asid = grind arith
 
 page-made : (g h page : ℕ) (e : Entry) → Made g e → Made g (page_dropped h page e)
 unfolding page_dropped
@@ -125,19 +90,20 @@ module _ (t : Tlb) (s : WellFormed t) where
   unfolding flush_of
   flushed P w a = grind arith
 
+  emptied : (i : ℕ) → lines_of (t.generation + 1) t.entries i ≡ empty
+  unfolding lines_of
+  emptied i = flush-drops _ _ (each-getD {P = Made t.generation} blank (blank-made _) s.entries i).early
+
   pub flush-live : live (flush_of t) ≡ invalidate All (live t)
-  unfolding invalidate lines_of
+  unfolding invalidate
   flush-live =
-      flushed (λ u. live u ≡ invalidate All (live t))
-      (cleared-live (wrapped t) refl refl _ (λ i. blank-lines i ∙ sym (all-covered ((live t).lines i))))
-      (λ h. cleared-live (advanced t) refl refl _ (λ i. emptied i ∙ sym (all-covered ((live t).lines i))))
-    where
-      emptied : (i : ℕ) → lines_of (t.generation + 1) t.entries i ≡ empty
-      emptied i = flush-drops _ _ (each-getD {P = Made t.generation} blank (blank-made _) s.entries i).early
+      flushed (λ u. live u ≡ invalidate All (live t)) (search (rules, cleared-live, blank-lines, all-covered))
+      (λ h. search (rules, cleared-live, emptied, all-covered))
 
   pub flush-sound : WellFormed (flush_of t)
+  unfolding blanks
   flush-sound =
-      flushed WellFormed (cleared-well (wrapped t) refl refl (omega arith) (omega arith) blanks-long s.levels (blanks-made 1))
+      flushed WellFormed (search (rules, cleared-well, length-replicate, each-replicate, blank-made))
       (λ h. cleared-well (advanced t) refl refl (omega arith) h s.slots s.levels (each-imp (older t.generation) s.entries))
 
   pub page-live : (page : ℕ) → live (drop_page_of t page) ≡ invalidate (Page page) (live t)
@@ -181,7 +147,7 @@ broadcast-live t what = grind arith
 
 pub broadcast-sound : (t : Tlb) (what : Inval) → WellFormed t → WellFormed (broadcast_of t what)
 unfolding broadcast_of
-broadcast-sound t what s = well _ s.first s.last s.slots s.places s.levels s.entries s.hints s.fetch
+broadcast-sound t what s = search rules
 
 -- LINES
 
@@ -201,10 +167,7 @@ pub kept-lines : (g p : ℕ) (r : Regime) (es : List Entry) (e : Entry) → leng
     → e.tag ≡ p * 4 + index_of r → (i : ℕ)
     → lines_of g (slice_set es (slot_of e.tag) e) i ≡ (if i == e.tag / 4 % 1024 then holds (line_in r e) else lines_of g es i)
 unfolding lines_of
-kept-lines g p r es e long q w i =
-    ap (line_of g) (get_d_set es (slot_of e.tag) i e blank (rw long (omega arith)))
-    ∙ if-ap (line_of g) (i == slot_of e.tag) e (slice_index_or es i blank)
-    ∙ ap (λ (l : Slot Line). (if i == slot_of e.tag then l else line_of g (slice_index_or es i blank))) (line_made g p r e q w)
+kept-lines g p r es e long q w i = rw (get_d_set es (slot_of e.tag) i e blank (rw long (omega arith))) (grind (arith, line_made g p r e q w))
 
 module _ (t : Tlb) (s : WellFormed t) (r : Regime) (p : ℕ) (e : Entry) where
   pub put-live : e.tag ≡ p * 4 + index_of r → live (put_of t e) ≡ keep (line_in r e) (live t)
@@ -213,4 +176,4 @@ module _ (t : Tlb) (s : WellFormed t) (r : Regime) (p : ℕ) (e : Entry) where
 
   pub put-sound : e.pa % 4096 ≡ 0 → e.level ≤ 3 → WellFormed (put_of t e)
   unfolding put_of
-  put-sound a l = grind (arith, length-set, each_set, well)
+  put-sound a l = search (rules, length-set, each_set)

@@ -1,16 +1,15 @@
 -- What a translation reads, by how the plain model answers it.
 use Rattle.std.proofs.Common.{arith}
-use Rattle.std.specs.Prelude.{if◌then◌else◌, ◌≡◌, ℕ, ◌+◌, ◌/◌, ◌%◌, ◌^◌, ◌≤◌, Bool, true, false, ◌==◌, Some, None}
+use Rattle.std.specs.Prelude.{◌≡◌, ℕ, ◌+◌, ◌%◌, ◌^◌, ◌≤◌, Bool, true, false, Some, None}
 use Rattle.tlb.specs.Access.{may_hint}
-use Rattle.tlb.proofs.Cells.{and-false, may-is, known_is, fetch-known-is}
-use Rattle.tlb.specs.Counting.{how_work, how_unhinted, how_tried, how_hinted, how_translated, how_fetched}
-use Rattle.tlb.specs.Hint.{hint_key, data_slot, on_page}
+use Rattle.std.proofs.Math.Bool.{and-false}
+use Rattle.tlb.proofs.Cells.{may-is, known_is, fetch-known-is}
+use Rattle.tlb.specs.Runs.{how_work, how_unhinted, how_hinted, how_translated, how_fetched}
+use Rattle.tlb.specs.Tlb.{data_slot, hint_at, get_of}
 use Rattle.tlb.specs.Live.{live, hints_of, fetch_hint_of, WellFormed}
-use Rattle.tlb.specs.Model.{empty, holds, Access}
-use Rattle.tlb.specs.Tlb.{hint_at, get_of}
-use Rattle.tlb.specs.Translate.{tag_in, hint_in}
-use Rattle.tlb.specs.Work.{needs_walk, work_missed, work_tried, work_in, fetch_work_in}
-use Rattle.tlb.specs.declared.{entry.Entry.Entry, hint.Hint.Hint, work.Work.Work, Tlb.Tlb}
+use Rattle.tlb.specs.Model.{Access}
+use Rattle.tlb.specs.Translate.{tag_in, hint_in, needs_walk, work_missed, work_in, fetch_work_in}
+use Rattle.tlb.specs.declared.{entry.Entry.Entry, work.Work.Work, Tlb.Tlb}
 use Rattle.tlb.proofs.Refines.{line-is}
 use Rattle.tlb.proofs.Translations.{place_is}
 
@@ -19,18 +18,10 @@ module _ (a : Access) (t : Tlb) (s : WellFormed t) (low : a.privilege.level ≤ 
   unfolding needs_walk get_of
   missed-work = grind (arith, line-is)
 
-  abbrev hint : Hint
-  hint = hint_at t (data_slot a.va a.kind)
-
-  by-key : (b : Bool)
-      → work_tried (if b then Some (on_page hint.pa a.va) else None) a t w
-      ≡ how_work (how_tried (if b then holds (hint.pa / 4096) else empty) (how_unhinted a (live t))) a.reads w
-  unfolding needs_walk get_of
-  by-key b = grind (arith, line-is)
-
   by-mark : (m : Bool) → may_hint a.privilege a.kind ≡ m → work_in a t w ≡ how_work (how_hinted m a (live t)) a.reads w
   unfolding hints_of
-  by-mark true q = rw (q, place_is a.kind a.va, known_is hint a.va a.privilege.level low) (by-key (hint.key == hint_key a.va a.privilege.level))
+  by-mark true q =
+      rw (q, place_is a.kind a.va, known_is (hint_at t (data_slot a.va a.kind)) a.va a.privilege.level low) (grind (arith, missed-work))
   by-mark false q = rw q missed-work
 
   pub translation-work : work_in a t w ≡ how_work (how_translated a (live t)) a.reads w
@@ -51,4 +42,4 @@ module _ (a : Access) (t : Tlb) (w : Work) where
   pub walk-read : a.on ≡ true → hint_in a.privilege a.va a.kind t ≡ None → get_of t (tag_in a) ≡ None
       → (work_in a t w).reads ≡ (w.reads + a.reads) % 2 ^ 64
   unfolding needs_walk
-  walk-read on h e = rw (h, on, e)
+  walk-read on h e = grind arith

@@ -1,11 +1,12 @@
 -- An access: what it wants, who makes it, what it needs, and its answer.
-use Rattle.std.specs.Prelude.{if◌then◌else◌, ℕ, ◌+◌, ◌*◌, ◌/◌, ◌%◌, ◌^◌, Bool, true, false, not, ◌&&◌, ◌||◌, ◌==◌, bit_or, Option, Some, None, Result, Ok, Err, eqb}
+use Rattle.std.specs.Prelude.{if◌then◌else◌, ℕ, ◌+◌, ◌*◌, ◌/◌, ◌%◌, ◌^◌, Bool, true, false, not, ◌&&◌, ◌||◌, ◌==◌, bit_or, Option, Some, None, Result}
+use Rattle.std.specs.Prelude.{Ok, Err, eqb}
 use Rattle.fault.specs.First.{first}
-use Rattle.walk.specs.Flat.{flat_by}
+use Rattle.walk.specs.Walk.{flat_by}
 use Rattle.sysreg.specs.Regs.{index_of}
 use Rattle.sysreg.specs.declared.regs.Regime.{Regime}
 use Rattle.sysreg.specs.declared.regs.Regime.TheVariants.{El1}
-use Rattle.tlb.specs.Hint.{on_page}
+use Rattle.tlb.specs.Tlb.{on_page}
 use Rattle.tlb.specs.declared.{entry.Entry.Entry, access.Kind.Kind, access.NoSuchKind.NoSuchKind, access.Privilege.Privilege}
 use Rattle.tlb.specs.Answers.{Answer}
 use Rattle.tlb.specs.declared.access.Kind.TheVariants.{Read, Write, Fetch}
@@ -37,17 +38,13 @@ abbrev pub tag_of : Regime → ℕ → ℕ
 tag_of r va = va / 4096 * 4 + index_of r
 
 -- the bit that the access needs: read 0, write 1, fetch 2; the privileged rights stand three higher
-abbrev pub own_rights : Bool → ℕ
-own_rights true = 0
-own_rights false = 3
-
 abbrev pub right_place : Kind → ℕ
 right_place Read = 0
 right_place Write = 1
 right_place Fetch = 2
 
 abbrev pub right_of : Kind → Bool → ℕ
-right_of kind user = own_rights user + right_place kind
+right_of kind user = (if user then 0 else 3) + right_place kind
 
 abbrev pub has_right : ℕ → ℕ → Bool
 has_right perms right = perms / 2 ^ right % 2 == 1

@@ -2,8 +2,7 @@
 -- cache.
 use Rattle.std.specs.Prelude.{ℕ, List, [], ◌∷◌, Ok, Err}
 use Rattle.tlb.specs.Model.{Access}
-use Rattle.tlb.specs.Translate.{translation_in, tlb_after, fetch_in, fetched_in}
-use Rattle.tlb.specs.Work.{work_in, fetch_work_in}
+use Rattle.tlb.specs.Translate.{translation_in, tlb_after, fetch_in, fetched_in, work_in, fetch_work_in}
 use Rattle.tlb.specs.declared.{access.Kind.Kind, work.Work.Work, Tlb.Tlb}
 use Rattle.tlb.specs.Answers.{Answer}
 use Rattle.tlb.specs.declared.access.Kind.TheVariants.{Fetch}

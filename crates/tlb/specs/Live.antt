@@ -1,17 +1,20 @@
--- The plain model that a cache stands for, and the caches that the operations make and keep.
-use Rattle.std.specs.Prelude.{if◌then◌else◌, ◌≡◌, ℕ, zero, suc, ◌/◌, ◌%◌, ◌^◌, ◌<◌, ◌≤◌, List, length, ◌==◌, nat_le, Option, Some, None, slice_index_or, Ok}
+-- Lists that stand for arrays: what holds of each element, and a loop that maps every element.
+use Rattle.std.specs.Prelude.{ℕ, List, [], ◌∷◌, if◌then◌else◌, ◌≡◌, zero, suc, ◌/◌, ◌%◌, ◌^◌, ◌<◌, ◌≤◌, length, ◌==◌, nat_le, Option, Some, None}
+use Rattle.std.specs.Prelude.{slice_index_or, Ok}
 use Rattle.walk.specs.declared.{level.Leaf.Leaf}
 use Rattle.sysreg.specs.declared.regs.Regime.{Regime}
 use Rattle.sysreg.specs.declared.regs.Regime.TheVariants.{El1, El2, El3}
-use Rattle.tlb.specs.Entry.{blank}
-use Rattle.tlb.specs.Hint.{no_hint}
-use Rattle.tlb.specs.Count.{tally_at}
-use Rattle.tlb.specs.Lists.{Each}
-use Rattle.tlb.specs.Model.{Slot, empty, holds, Line, Known, Counters, Model, reach_of}
-use Rattle.tlb.specs.declared.{entry.Entry.Entry, hint.Hint.Hint, hint.FetchHint.FetchHint}
-use Rattle.tlb.specs.Answers.{Outcome}
-use Rattle.tlb.specs.declared.{Tlb.Tlb, Inval.Inval}
 use Rattle.walk.specs.Answers.{Walked}
+use Rattle.tlb.specs.Tlb.{blank, no_hint, tally_at}
+use Rattle.tlb.specs.Model.{Slot, empty, holds, Line, Known, Counters, Model, reach_of}
+use Rattle.tlb.specs.declared.{entry.Entry.Entry, hint.Hint.Hint, hint.FetchHint.FetchHint, Tlb.Tlb, Inval.Inval}
+use Rattle.tlb.specs.Answers.{Outcome}
+
+pub data Each {A : Type 0} (P : A → Type 0) : List A → Type 0 where
+  done : Each P []
+  more : {a : A} {l : List A} → P a → Each P l → Each P (a ∷ l)
+
+-- The plain model that a cache stands for, and the caches that the operations make and keep.
 
 -- what an entry says of its page, in the regime r
 abbrev pub line_in : Regime → Entry → Line

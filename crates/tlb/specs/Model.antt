@@ -97,10 +97,9 @@ counting f m = record m { counts = f m.counts }
 
 -- 18, 9 or 0 low bits of a page number lie within a leaf of level 1, 2 or 3
 abbrev pub span_bits : ℕ → ℕ
-span_bits zero = 0
 span_bits (suc zero) = 18
 span_bits (suc (suc zero)) = 9
-span_bits (suc (suc (suc n))) = 0
+span_bits level = 0
 
 abbrev pub belongs_to : Reach → ℕ → Bool
 belongs_to everyone a = false
@@ -231,12 +230,12 @@ need Read false = 8
 need Write false = 16
 need Fetch false = 32
 
-abbrev pub need_in : Access → ℕ
-need_in a = need a.kind (as_user a.regime a.privilege.level a.privilege.unprivileged a.kind)
-
 -- 0x0C plus the level, where the line lacks that bit
 unfoldable pub judge : Line → Access → Answer
-judge l a = if l.perms / need_in a % 2 == 1 then address_in l.frame a.va else Err (first (12 + l.level))
+judge l a =
+    if l.perms / need a.kind (as_user a.regime a.privilege.level a.privilege.unprivileged a.kind) % 2 == 1
+    then address_in l.frame a.va
+    else Err (first (12 + l.level))
 
 abbrev pub reach_of : Bool → ℕ → Reach
 reach_of true a = everyone

@@ -1,6 +1,6 @@
 -- Worked runs, in numbers: what is seen of a list of operations on a new cache and on the empty plain model, the same rows of both. Where a
 -- definition is wrong, the cache's rows are others, computed.
-use Rattle.std.specs.Prelude.{if◌then◌else◌, ◌≡◌, ℕ, Bool, true, false, List, [], ◌∷◌, map, filter, Ok, Err}
+use Rattle.std.specs.Prelude.{◌+◌, ◌*◌, if◌then◌else◌, ◌≡◌, ℕ, Bool, true, false, List, [], ◌∷◌, map, filter, Ok, Err}
 use Rattle.sysreg.specs.declared.regs.Regime.{Regime}
 use Rattle.sysreg.specs.declared.regs.Regime.TheVariants.{El1, El2, El3}
 use Rattle.tlb.specs.Model.{Slot, empty, holds, Access, empty_model}
@@ -16,6 +16,11 @@ use Rattle.walk.specs.Answers.{Walked}
 pub record Shows (row : Seen → List ℕ) (steps : List (Op × List ℕ)) : Type 0 where
   pub cache : map row (run (map (λ s. s.0) steps) fresh) ≡ map (λ s. s.1) steps
   pub model : map row (model_run (map (λ s. s.0) steps) empty_model) ≡ map (λ s. s.1) steps
+
+-- hits and walks of some levels
+abbrev tallies : List ℕ → Seen → List ℕ
+tallies [] s = []
+tallies (l ∷ ls) s = s.counts.hits l ∷ s.counts.walks l ∷ tallies ls s
 
 -- an access with stage 1 on
 abbrev access_by : Regime → ℕ → Bool → Kind → ℕ → Walked → Access
@@ -82,15 +87,9 @@ open-page level = Ok (record { oa = 0x90005000; desc = 0; perms = 63; level = le
 abbrev from : ℕ → Bool → Kind → ℕ → Op
 from level mark k va = asked El1 level mark k va (open-page 3)
 
--- hits and walks of EL0 to EL3
-abbrev levels : Seen → List ℕ
-levels s =
-    s.counts.hits 0 ∷ s.counts.walks 0 ∷ s.counts.hits 1 ∷ s.counts.walks 1 ∷ s.counts.hits 2 ∷ s.counts.walks 2 ∷ s.counts.hits 3
-    ∷ s.counts.walks 3 ∷ []
-
 abbrev pub WorkedAtLevels : Type 0
 WorkedAtLevels =
-    Shows levels
+    Shows (tallies (0 ∷ 1 ∷ 2 ∷ 3 ∷ []))
     ((from 0 false Read 0x5000, 0 ∷ 1 ∷ 0 ∷ 0 ∷ 0 ∷ 0 ∷ 0 ∷ 0 ∷ [])
     ∷ (from 1 false Read 0x5000, 0 ∷ 1 ∷ 1 ∷ 0 ∷ 0 ∷ 0 ∷ 0 ∷ 0 ∷ [])
     ∷ (from 1 true Read 0x5000, 0 ∷ 1 ∷ 2 ∷ 0 ∷ 0 ∷ 0 ∷ 0 ∷ 0 ∷ [])
@@ -104,14 +103,9 @@ WorkedAtLevels =
 -- 5 and 0x205 do not; one page of EL1, of EL2 and of EL3 has one slot, and none of them serves another. Without the mark pages 5, 0x10D
 -- and 0x425 share a hint's place, 5 and 0x105 do not.
 
--- hits and walks of EL1, EL2 and EL3
-abbrev one_to_three : Seen → List ℕ
-one_to_three s =
-    s.counts.hits 1 ∷ s.counts.walks 1 ∷ s.counts.hits 2 ∷ s.counts.walks 2 ∷ s.counts.hits 3 ∷ s.counts.walks 3 ∷ []
-
 abbrev pub WorkedSlots : Type 0
 WorkedSlots =
-    Shows one_to_three
+    Shows (tallies (1 ∷ 2 ∷ 3 ∷ []))
     ((from 1 true Read 0x5000, 0 ∷ 1 ∷ 0 ∷ 0 ∷ 0 ∷ 0 ∷ [])
     ∷ (from 1 true Read 0x405000, 0 ∷ 2 ∷ 0 ∷ 0 ∷ 0 ∷ 0 ∷ [])
     ∷ (from 1 true Read 0x5000, 0 ∷ 3 ∷ 0 ∷ 0 ∷ 0 ∷ 0 ∷ [])
@@ -134,50 +128,40 @@ WorkedSlots =
 -- COVERING. A leaf of level 1 spans 2^18 pages, of level 2 2^9, of level 3 one; a page's low 44 bits count and no higher one; a leaf for
 -- every ASID stays after an Asid and under another ASID, and a Page takes it. Each read again is a hit or a walk.
 
--- hits and walks of EL1
-abbrev hits_and_walks : Seen → List ℕ
-hits_and_walks s = s.counts.hits 1 ∷ s.counts.walks 1 ∷ []
-
--- reads of three pages of other slots, whose leaves are of level 1, 2 and 3
-abbrev giant : Op
-giant = asked El1 1 true Read 0x40001000 (open-page 1)
-
-abbrev large : Op
-large = asked El1 1 true Read 0x40002000 (open-page 2)
-
-abbrev small : Op
-small = asked El1 1 true Read 0x40003000 (open-page 3)
+-- a read of one of three pages of other slots, whose leaf is of the level
+abbrev leaf_of : ℕ → Op
+leaf_of level = asked El1 1 true Read (0x40000000 + level * 4096) (open-page level)
 
 abbrev pub WorkedCovers : Type 0
 WorkedCovers =
-    Shows hits_and_walks
-    ((giant, 0 ∷ 1 ∷ [])
-    ∷ (large, 0 ∷ 2 ∷ [])
-    ∷ (small, 0 ∷ 3 ∷ [])
+    Shows (tallies (1 ∷ []))
+    ((leaf_of 1, 0 ∷ 1 ∷ [])
+    ∷ (leaf_of 2, 0 ∷ 2 ∷ [])
+    ∷ (leaf_of 3, 0 ∷ 3 ∷ [])
     ∷ (invalidates (Page 0x3FFFF), 0 ∷ 3 ∷ [])
     ∷ (invalidates (Page 0x80000), 0 ∷ 3 ∷ [])
-    ∷ (giant, 1 ∷ 3 ∷ [])
-    ∷ (large, 2 ∷ 3 ∷ [])
-    ∷ (small, 3 ∷ 3 ∷ [])
+    ∷ (leaf_of 1, 1 ∷ 3 ∷ [])
+    ∷ (leaf_of 2, 2 ∷ 3 ∷ [])
+    ∷ (leaf_of 3, 3 ∷ 3 ∷ [])
     ∷ (invalidates (Page 0x10000007FFFF), 3 ∷ 3 ∷ [])
-    ∷ (large, 4 ∷ 3 ∷ [])
-    ∷ (small, 5 ∷ 3 ∷ [])
-    ∷ (giant, 5 ∷ 4 ∷ [])
+    ∷ (leaf_of 2, 4 ∷ 3 ∷ [])
+    ∷ (leaf_of 3, 5 ∷ 3 ∷ [])
+    ∷ (leaf_of 1, 5 ∷ 4 ∷ [])
     ∷ (invalidates (Page 0x100000040200), 5 ∷ 4 ∷ [])
-    ∷ (large, 6 ∷ 4 ∷ [])
-    ∷ (giant, 6 ∷ 5 ∷ [])
+    ∷ (leaf_of 2, 6 ∷ 4 ∷ [])
+    ∷ (leaf_of 1, 6 ∷ 5 ∷ [])
     ∷ (invalidates (Page 0x1000000401FF), 6 ∷ 5 ∷ [])
-    ∷ (small, 7 ∷ 5 ∷ [])
-    ∷ (giant, 7 ∷ 6 ∷ [])
-    ∷ (large, 7 ∷ 7 ∷ [])
+    ∷ (leaf_of 3, 7 ∷ 5 ∷ [])
+    ∷ (leaf_of 1, 7 ∷ 6 ∷ [])
+    ∷ (leaf_of 2, 7 ∷ 7 ∷ [])
     ∷ (invalidates (Page 0x40002), 7 ∷ 7 ∷ [])
     ∷ (invalidates (Page 0x80000040003), 7 ∷ 7 ∷ [])
-    ∷ (small, 8 ∷ 7 ∷ [])
+    ∷ (leaf_of 3, 8 ∷ 7 ∷ [])
     ∷ (invalidates (Page 0x100000040003), 8 ∷ 7 ∷ [])
-    ∷ (small, 8 ∷ 8 ∷ [])
+    ∷ (leaf_of 3, 8 ∷ 8 ∷ [])
     ∷ (invalidates (Asid 0), 8 ∷ 8 ∷ [])
     ∷ (retags 3, 8 ∷ 8 ∷ [])
-    ∷ (small, 9 ∷ 8 ∷ [])
+    ∷ (leaf_of 3, 9 ∷ 8 ∷ [])
     ∷ [])
 
 -- RIGHTS. Which of the six permission bits lets an access pass, each on a page that has this bit alone: EL0's read, write and fetch are bits 1, 2
@@ -217,16 +201,12 @@ WorkedRights = NeededAre (λ os. run os fresh) × NeededAre (λ os. model_run os
 -- FETCHES. The fetch hint serves its page at its level, whatever the mark, and counts nothing; it is one: the next page or level replaces it.
 -- A translation of the kind alone asks no hint and leaves none. An invalidation empties it.
 
--- hits and walks of EL0 and of EL1
-abbrev none_and_one : Seen → List ℕ
-none_and_one s = s.counts.hits 0 ∷ s.counts.walks 0 ∷ s.counts.hits 1 ∷ s.counts.walks 1 ∷ []
-
 abbrev fetch_from : ℕ → Bool → ℕ → Op
 fetch_from level mark va = fetches (access_by El1 level mark Fetch va (open-page 3))
 
 abbrev pub WorkedFetches : Type 0
 WorkedFetches =
-    Shows none_and_one
+    Shows (tallies (0 ∷ 1 ∷ []))
     ((fetch_from 1 false 0x7000, 0 ∷ 0 ∷ 0 ∷ 1 ∷ [])
     ∷ (fetch_from 1 false 0x7008, 0 ∷ 0 ∷ 0 ∷ 1 ∷ [])
     ∷ (fetch_from 1 true 0x7008, 0 ∷ 0 ∷ 0 ∷ 1 ∷ [])
@@ -253,7 +233,7 @@ flat_fetch_from va = fetches (record (access_by El1 1 false Fetch va (Err 6)) { 
 
 -- whether it is an address, the answer, hits and walks of EL1
 abbrev told : Seen → List ℕ
-told s = (if is_address s.answer then 1 else 0) ∷ answered s.answer ∷ hits_and_walks s
+told s = (if is_address s.answer then 1 else 0) ∷ answered s.answer ∷ tallies (1 ∷ []) s
 
 abbrev pub WorkedFlat : Type 0
 WorkedFlat =

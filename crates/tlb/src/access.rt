@@ -1,8 +1,7 @@
 // An access: what it wants, who makes it, what it needs, and its answer.
 ghost use Rattle.std.specs.Prelude.{◌≡◌, ◌≤◌};
-ghost use Rattle.walk.specs.Tag.{untagged};
-ghost use Rattle.tlb.specs.Access.{kind_at, kind_number, may_hint, tag_of};
-ghost use Rattle.tlb.specs.Access.{user_of, right_of, flat_answer, judged};
+ghost use Rattle.walk.specs.Regime.{untagged};
+ghost use Rattle.tlb.specs.Access.{kind_at, kind_number, may_hint, tag_of, user_of, right_of, flat_answer, judged};
 
 use crate::entry::Entry;
 use crate::hint;
@@ -78,6 +77,7 @@ pub fn tag_of(regime: Regime, va: u64) -> u64
 
 /// The answer to `va` with stage 1 off: the address without its tag, or an address size fault of level 0. One that is
 /// small as it stands has no tag to drop.
+#[tactic(auto, using(crate::proofs::Cells::flat_raw))]
 pub fn flat(bank: &Bank, regime: Regime, va: u64) -> Result<u64, Fault>
     ensures { result ≡ flat_answer (untagged bank.now.tcr regime va) }
 {

@@ -1,6 +1,6 @@
 // Hits and walks, by exception level.
 ghost use Rattle.std.specs.Prelude.{◌≡◌, ◌<◌};
-ghost use Rattle.tlb.specs.Count.{level_place, hit_counted, walk_counted};
+ghost use Rattle.tlb.specs.Tlb.{level_place, hit_counted, walk_counted};
 
 use crate::Tlb;
 

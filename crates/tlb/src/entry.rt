@@ -1,6 +1,6 @@
 // One entry: what a walk found for a page of a regime.
 ghost use Rattle.std.specs.Prelude.{◌≡◌, ◌≤◌};
-ghost use Rattle.tlb.specs.Entry.{entry_for, span_of, page_dropped, asid_dropped};
+ghost use Rattle.tlb.specs.Tlb.{entry_for, span_of, page_dropped, asid_dropped};
 
 use walk::level::Leaf;
 
@@ -34,6 +34,7 @@ fn span(level: u8) -> u64
     }
 }
 
+#[tactic(auto, unfolding(crate::specs::Tlb::page_dropped, crate::specs::Tlb::asid_dropped))]
 impl Entry {
     /// The entry that a leaf becomes, under an ASID. `Tlb::put` sets its generation.
     pub fn new(leaf: Leaf, asid: u16, tag: u64) -> Self
@@ -51,7 +52,6 @@ impl Entry {
     }
 
     // After a Page: out if it is of the generation and translates the page.
-    #[tactic(auto, unfolding(crate::specs::Entry::page_dropped))]
     pub fn drop_page(&mut self, generation: u32, page: u64)
         ensures { self.new ≡ page_dropped generation page self.old }
     {
@@ -63,7 +63,6 @@ impl Entry {
     }
 
     // After an Asid: out if it was walked for the ASID and is not global.
-    #[tactic(auto, unfolding(crate::specs::Entry::asid_dropped))]
     pub fn drop_asid(&mut self, asid: u16)
         ensures { self.new ≡ asid_dropped asid self.old }
     {

@@ -1,7 +1,7 @@
 // The judged fresh answer: how an access ends with nothing cached.
 ghost use Rattle.std.specs.Prelude.{◌≡◌};
 ghost use Rattle.word.specs.Ram.{word_at};
-ghost use Rattle.tlb.specs.Fresh.{fresh_answer};
+ghost use Rattle.tlb.specs.Translate.{fresh_answer};
 
 use crate::access::Kind;
 use crate::entry::Entry;
@@ -14,7 +14,7 @@ use walk::regime::Bank;
 /// starts at `base`: the physical address, or the fault of the walk or of the permission check. It is judged by EL0's
 /// rights or by the regime's own, whatever the level.
 #[inline(always)]
-#[tactic(auto, unfolding(crate::specs::Fresh::fresh_answer))]
+#[tactic(auto, unfolding(crate::specs::Translate::fresh_answer))]
 pub fn fresh_answer(
     s: Bank,
     regime: Regime,

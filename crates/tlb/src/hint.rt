@@ -1,6 +1,6 @@
 // Hints: pages that an access was allowed to, by raw page and exception level.
 ghost use Rattle.std.specs.Prelude.{◌≡◌, ◌<◌, false};
-ghost use Rattle.tlb.specs.Hint.{page_of, on_page, data_slot, hint_key, hint_for, hint_found, fetch_for, fetch_found};
+ghost use Rattle.tlb.specs.Tlb.{page_of, on_page, data_slot, hint_key, hint_for, hint_found, fetch_for, fetch_found};
 ghost use Rattle.tlb.specs.Access.{is_fetch};
 
 use crate::Tlb;
@@ -45,7 +45,7 @@ pub fn on_page(pa: u64, va: u64) -> u64
 }
 
 /// A data hint's place: by page, with higher bits folded in. A fetch has none below 512.
-#[tactic(auto, unfolding(crate::specs::Hint::place_of))]
+#[tactic(auto, unfolding(crate::specs::Tlb::place_of))]
 pub fn data_slot(va: u64, kind: Kind) -> usize
     ensures value { result ≡ data_slot va kind }
     ensures upper_bound { is_fetch kind ≡ false → result < 512 }

@@ -1,8 +1,7 @@
 #![tactic(auto)]
 // The TLB of stage 1: what walks found, the hints of recent accesses, the counters, and what other cores are to drop.
 ghost use Rattle.std.specs.Prelude.{◌≡◌, ◌<◌};
-ghost use Rattle.tlb.specs.Entry.{slot_of};
-ghost use Rattle.tlb.specs.Tlb.{fresh, get_of, put_of, hintless, flush_of, drop_page_of, drop_asid_of};
+ghost use Rattle.tlb.specs.Tlb.{slot_of, fresh, get_of, put_of, hintless, flush_of, drop_page_of, drop_asid_of};
 ghost use Rattle.tlb.specs.Tlb.{retag_of, invalidate_of, broadcast_of};
 
 use count::Tally;
@@ -54,9 +53,9 @@ pub struct Tlb {
     pub broadcast: Option<Inval>,
 }
 
+#[tactic(auto, using(crate::proofs::Cells::sweep), unfolding(crate::specs::Tlb::blanks, crate::specs::Tlb::no_hints, crate::specs::Tlb::no_tallies, crate::specs::Tlb::flush_of, crate::specs::Tlb::invalidate_of, crate::specs::Tlb::drop_page_of, crate::specs::Tlb::drop_asid_of, crate::specs::Tlb::retag_of, crate::specs::Tlb::broadcast_of, crate::specs::Tlb::get_of, crate::specs::Tlb::put_of))]
 impl Tlb {
     /// Empty, as after reset.
-    #[tactic(auto, unfolding(crate::specs::Tlb::blanks, crate::specs::Tlb::no_hints, crate::specs::Count::no_tallies))]
     pub fn new() -> Self
         ensures { result ≡ fresh }
     {
@@ -75,7 +74,6 @@ impl Tlb {
     }
 
     // Every hint out.
-    #[tactic(auto, unfolding(crate::specs::Tlb::no_hints))]
     fn clear_hints(&mut self)
         ensures { self.new ≡ hintless self.old }
     {
@@ -85,7 +83,6 @@ impl Tlb {
     }
 
     /// Everything out: the next generation. Where that count wraps, the entries are cleared and it is 1.
-    #[tactic(auto, unfolding(crate::specs::Tlb::flush_of, crate::specs::Tlb::blanks))]
     pub fn flush(&mut self)
         ensures { self.new ≡ flush_of self.old }
     {
@@ -99,7 +96,6 @@ impl Tlb {
     }
 
     /// What a TLBI asks for.
-    #[tactic(auto, unfolding(crate::specs::Tlb::invalidate_of))]
     pub fn invalidate(&mut self, what: Inval)
         ensures { self.new ≡ invalidate_of self.old what }
     {
@@ -111,7 +107,6 @@ impl Tlb {
     }
 
     /// What translates the page VA[55:12] out, each block that covers it too, and every hint.
-    #[tactic(auto, using(crate::proofs::Lists::sweep), unfolding(crate::specs::Tlb::drop_page_of))]
     pub fn drop_page(&mut self, page: u64)
         ensures { self.new ≡ drop_page_of self.old page }
     {
@@ -125,7 +120,6 @@ impl Tlb {
 
     /// Asks the other cores to drop it too, along with anything asked since they last looked: a second one that
     /// differs makes it All.
-    #[tactic(auto, unfolding(crate::specs::Tlb::broadcast_of))]
     pub fn broadcast(&mut self, what: Inval)
         ensures { self.new ≡ broadcast_of self.old what }
     {
@@ -145,7 +139,6 @@ impl Tlb {
     }
 
     /// The entry that answers for a tag.
-    #[tactic(auto, unfolding(crate::specs::Tlb::get_of))]
     pub fn get(&self, tag: u64) -> Option<Entry>
         ensures { result ≡ get_of self.now tag }
     {
@@ -156,7 +149,6 @@ impl Tlb {
     }
 
     /// The EL1&0 regime's ASID is now asid: the entries stay, every hint goes.
-    #[tactic(auto, unfolding(crate::specs::Tlb::retag_of))]
     pub fn retag(&mut self, asid: u16)
         ensures { self.new ≡ retag_of self.old asid }
     {
@@ -165,7 +157,6 @@ impl Tlb {
     }
 
     /// What is not global and was walked for asid out, and every hint.
-    #[tactic(auto, using(crate::proofs::Lists::sweep), unfolding(crate::specs::Tlb::drop_asid_of, crate::specs::Tlb::retag_of))]
     pub fn drop_asid(&mut self, asid: u16)
         ensures { self.new ≡ drop_asid_of self.old asid }
     {
@@ -176,7 +167,6 @@ impl Tlb {
     }
 
     /// An entry into its slot, in the present generation.
-    #[tactic(auto, unfolding(crate::specs::Tlb::put_of))]
     pub fn put(&mut self, e: Entry)
         ensures { self.new ≡ put_of self.old e }
     {

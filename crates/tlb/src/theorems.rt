@@ -1,17 +1,16 @@
 // What holds of every cache. Each function computes nothing: its contract is the theorem.
 ghost use Rattle.std.specs.Prelude.{◌≡◌, ℕ, ◌+◌, ◌%◌, ◌^◌, ◌≤◌, true, false, List, length, Some, None, ◌≢◌};
-ghost use Rattle.tlb.specs.Count.{hit_counted, walk_counted};
-ghost use Rattle.tlb.specs.Counting.{How, how_counted, how_work, how_translated, how_fetched, rust_counted, sums};
-ghost use Rattle.tlb.specs.Lists.{Each};
-ghost use Rattle.tlb.specs.Live.{counters_of, live, WellFormed, LeafLevel, Follows};
-ghost use Rattle.tlb.specs.Model.{Access, Counters, Model, empty_model, one_hit, one_walk};
-ghost use Rattle.tlb.specs.Model.{translate, fetch, invalidate, retag, broadcast};
-ghost use Rattle.tlb.specs.Runs.{Op, Fair, run, model_run};
-ghost use Rattle.tlb.specs.Translate.{tag_in, hint_in, translation_in, tlb_after, fetch_in, fetched_in};
-ghost use Rattle.tlb.specs.Work.{work_in, fetch_work_in};
-ghost use Rattle.tlb.specs.Tlb.{fresh, get_of, flush_of, invalidate_of, retag_of, broadcast_of};
-ghost use Rattle.tlb.specs.Worked.{WorkedRun, WorkedAtLevels, WorkedSlots, WorkedCovers};
-ghost use Rattle.tlb.specs.Worked.{WorkedRights, WorkedFetches, WorkedFlat, WorkedPending};
+ghost use Rattle.tlb.specs.Tlb.{hit_counted, walk_counted, fresh, get_of, flush_of, invalidate_of, retag_of};
+ghost use Rattle.tlb.specs.Tlb.{broadcast_of};
+ghost use Rattle.tlb.specs.Runs.{How, how_counted, how_work, how_translated, how_fetched, rust_counted, sums, Op, Fair};
+ghost use Rattle.tlb.specs.Runs.{run, model_run};
+ghost use Rattle.tlb.specs.Live.{Each, counters_of, live, WellFormed, LeafLevel, Follows};
+ghost use Rattle.tlb.specs.Model.{Access, Counters, Model, empty_model, one_hit, one_walk, translate, fetch};
+ghost use Rattle.tlb.specs.Model.{invalidate, retag, broadcast};
+ghost use Rattle.tlb.specs.Translate.{tag_in, hint_in, translation_in, tlb_after, fetch_in, fetched_in, work_in};
+ghost use Rattle.tlb.specs.Translate.{fetch_work_in};
+ghost use Rattle.tlb.specs.Worked.{WorkedRun, WorkedAtLevels, WorkedSlots, WorkedCovers, WorkedRights, WorkedFetches};
+ghost use Rattle.tlb.specs.Worked.{WorkedFlat, WorkedPending};
 ghost use Rattle.tlb.specs.declared.{Tlb.Tlb, entry.Entry.Entry, work.Work.Work};
 ghost use Rattle.tlb.specs.declared.Inval.{Inval};
 ghost use Rattle.tlb.specs.declared.Inval.TheVariants.{All};

@@ -1,9 +1,8 @@
 // One translation, in place: the hint, the entry, the walk.
 ghost use Rattle.std.specs.Prelude.{◌≡◌};
 ghost use Rattle.word.specs.Ram.{word_at};
-ghost use Rattle.tlb.specs.Translate.{asked, hint_left, hint_in, walked_in, past_hint_in};
-ghost use Rattle.tlb.specs.Work.{read_more};
-ghost use Rattle.tlb.specs.Hand.{Handed, AfterHanded, NeedsWalk};
+ghost use Rattle.tlb.specs.Translate.{asked, hint_left, hint_in, walked_in, past_hint_in, read_more, Handed};
+ghost use Rattle.tlb.specs.Translate.{AfterHanded, NeedsWalk};
 
 use crate::Tlb;
 use crate::access::{self, Kind, Privilege, Request};
@@ -13,6 +12,7 @@ use crate::work::Work;
 use fault::Fault;
 use sysreg::regs::Regime;
 
+#[tactic(auto, unfolding(crate::specs::Translate::miss_in, crate::specs::Translate::needs_walk, crate::specs::Translate::walked_in))]
 impl Tlb {
     /// Where the data hint sends an access, if one serves.
     #[inline(always)]
@@ -41,7 +41,6 @@ impl Tlb {
     /// The answer of a translation that no hint serves, where no walk is needed: with stage 1 off by the address
     /// alone, or by the entry of its page. It leaves a hint, where one may serve. RAM is read by no code here.
     #[inline(always)]
-    #[tactic(auto, unfolding(crate::specs::Translate::miss_in, crate::specs::Work::needs_walk))]
     pub fn at_hand(&mut self, a: Request, base: u64, ram: &[u8]) -> Option<Result<u64, Fault>>
         ensures answer { Handed (asked a (word_at base ram.now 8)) self.old result }
         ensures after { AfterHanded (asked a (word_at base ram.now 8)) self.old result self.new }
@@ -66,7 +65,6 @@ impl Tlb {
     /// A translation by a walk, whatever is at hand: where a walk is needed, the translation. A leaf becomes an entry
     /// and is judged, a fault makes none. It leaves a hint, where one may serve; what was read counts in `work`.
     #[inline(always)]
-    #[tactic(auto, unfolding(crate::specs::Translate::walked_in))]
     pub fn by_walk(
         &mut self,
         a: Request,

@@ -1,6 +1,6 @@
 // What the translations of an operation did, beside their answers. It goes down by reference to where it is done.
 ghost use Rattle.std.specs.Prelude.{◌≡◌};
-ghost use Rattle.tlb.specs.Work.{no_work, read_more};
+ghost use Rattle.tlb.specs.Translate.{no_work, read_more};
 
 /// The descriptors that walks read. A count wraps at 2^64.
 #[derive(Clone, Copy)]

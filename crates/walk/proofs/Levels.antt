@@ -1,19 +1,43 @@
--- One level of the walk case by case, on plain values.
-use Rattle.std.proofs.Common.{rules}
-use Rattle.std.specs.Prelude.{Err}
-use mathlib.Core.Path.{◌≡◌, sym, ap, ◌∙◌}
-use mathlib.Core.Bool.{Bool, true, false, ◌&&◌, ◌||◌}
-use Prim.Native.Nat.{ℕ, ◌+◌, ◌-◌, ◌*◌, ◌/◌, ◌%◌, ◌^◌, ◌≤◌, ◌<◌}
+-- Masks of the code as the fields of the definitions.
+use Rattle.std.specs.Prelude.{◌≡◌, refl, ℕ, ◌+◌, ◌-◌, ◌*◌, ◌/◌, ◌%◌, ◌^◌, ◌≤◌, ◌<◌, not, eqb, ◌==◌, ◌||◌, Bool, false, ◌&&◌}
+use Rattle.std.proofs.Common.{ap, ◌∙◌, arith, rules}
+use Rattle.std.specs.Int.Bits.{bit_and}
+use Rattle.std.proofs.lemmas.Nat.Bits.{and_pow, ones_shr}
+use Rattle.std.proofs.lemmas.Nat.{and_mask}
+use Rattle.word.specs.Bits.{bit_on, field, align_down}
+use Rattle.word.proofs.RamLaws.{cut_field, place, or-bit}
+use Rattle.sysreg.proofs.Masks.{run}
+use Rattle.walk.specs.Table.{beyond, grainsize, stride, table_next}
+use Rattle.walk.specs.State.{lookup_of, stepped, meant, Standing, Leads}
+use Rattle.walk.specs.declared.{level.Params.Params, level.WalkState.WalkState, rights.Permissions.Permissions}
+use Rattle.walk.specs.declared.level.Step.TheVariants.{Next}
+use Rattle.walk.specs.Permission.{Access, allowed, permission_byte, kind_bit, first_bit}
+use lib.Pow.{high, shl-shr, shr-shr, mod-pow-add, pow_pos, pow_mono}
+use mathlib.Core.Path.{sym}
 use native.Mathlib.Nat.{mod-lt}
-use native.Mathlib.Omega.{arith}
 use lib.Bits.{bit_or}
-use lib.Pow.{shl-shr, shr-shr, mod-pow-add, high, pow_pos, pow_mono}
-use Rattle.word.specs.Bits.{field, align_down}
-use Rattle.word.proofs.BitLaws.{place, cut_field, or-bit}
-use Rattle.walk.specs.Table.{grainsize, stride, beyond, descaddr, table_next}
-use Rattle.walk.specs.State.{lookup_of, answers, stepped, meant, Standing, Onwards, Leads, next, found, fault}
-use Rattle.walk.specs.declared.{level.Params.Params, level.WalkState.WalkState, level.Leaf.Leaf}
-use Rattle.walk.specs.declared.level.Step.TheVariants.{Next, Leaf as Found, Fault}
+
+-- all ones, shifted down
+pub ones_shifted : (n : ℕ) → n ≤ 64 → (2 ^ 64 - 1) / 2 ^ n ≡ 2 ^ (64 - n) - 1
+ones_shifted n h = ones_shr 64 n h
+
+-- SCTLR_ELx.WXN
+pub wxn_mask : (x : ℕ) → not (bit_and x 0x8_0000 == 0) ≡ bit_on x 19
+wxn_mask x = rw (and_pow x 19) (grind arith)
+
+-- HCR_EL2.TGE and DC
+pub neither_mask : (x : ℕ) → (bit_and x 0x800_1000 == 0) ≡ not (bit_on x 27 || bit_on x 12)
+neither_mask x = rw (run x 0x800_1000 27 1 refl, and_pow x 12) (grind arith)
+
+pub ruleset masks = (wxn_mask)
+
+-- an address beyond n bits
+pub beyond_mask : (n x : ℕ) → n ≤ 44 → not (eqb (bit_and x 0xFFFF_FFFF_FFFF / 2 ^ n) 0) ≡ beyond n x
+beyond_mask n x h = ap (λ (k : ℕ). not (eqb (k / 2 ^ n) 0)) (and_mask x 48) ∙ ap (λ (k : ℕ). not (eqb k 0)) (cut_field x {lo = n} {hi = 48} (omega arith))
+
+pub ruleset ends = (beyond_mask)
+
+-- One level of the walk case by case, on plain values.
 
 -- bits top-1 to lsb, by a shift up and a shift down
 pub index_is : (va top lsb : ℕ) → lsb ≤ top → top ≤ 64 → (va * 2 ^ (64 - top)) % 2 ^ 64 / 2 ^ (64 - top + lsb) ≡ field va lsb (top - lsb)
@@ -29,33 +53,11 @@ index_is va top lsb h k =
 pub index-small : (va top lsb : ℕ) → lsb ≤ top → top ≤ 48 → field va lsb (top - lsb) < 2 ^ 48
 index-small va top lsb h k = grind (arith, mod-lt, pow_pos, pow_mono)
 
--- what the indexes and the table's base come to
-pub skip-fits : (p : Params) (w : WalkState) → Standing p w → 64 - w.top < 64
-skip-fits p w st = omega (arith, st.below_top)
-
-pub skip-more : (p : Params) (w : WalkState) → Standing p w → 64 - w.top + w.lsb < 64
-skip-more p w st = omega (arith, st.below_top, st.top)
-
-module _ (p : Params) (w : WalkState) (va : ℕ) (st : Standing p w) where
-  pub address_is : w.table + (va * 2 ^ (64 - w.top)) % 2 ^ 64 / 2 ^ (64 - w.top + w.lsb) * 8 ≡ descaddr p va (lookup_of p w)
-  unfolding descaddr
-  address_is = grind (arith, index_is)
-
-  pub index-fits : (va * 2 ^ (64 - w.top)) % 2 ^ 64 / 2 ^ (64 - w.top + w.lsb) * 8 < 2 ^ 64
-  index-fits = grind (arith, index_is, index-small)
-
-  pub address-fits : w.table + (va * 2 ^ (64 - w.top)) % 2 ^ 64 / 2 ^ (64 - w.top + w.lsb) * 8 < 2 ^ 64
-  address-fits = grind (arith, index_is, index-small)
-
 -- a table descriptor
 and-or : (a b c : Bool) → (a && (b || c)) ≡ ((a && b) || (a && c))
 and-or a b c = grind arith
 
 module _ (p : Params) (w : WalkState) (desc : ℕ) (large : Bool) (el : large ≡ beyond p.outputsize desc) where
-  pub table-beyond : large ≡ true → answers (Err w.level) ≡ meant p (table_next p (lookup_of p w) desc)
-  unfolding table_next
-  table-beyond t = rw (← el, t)
-
   pub table-onward : (g s x : ℕ) → large ≡ false → Standing p w → g ≡ grainsize p.largegrain → g ≤ 16 → x ≡ align_down (desc % 2 ^ 48) (g % 64)
       → stepped p (Next record { tables = bit_or w.tables desc; table = x; top = w.lsb; lsb = w.lsb - s; level = w.level + 1 })
       ≡ meant p (table_next p (lookup_of p w) desc)
@@ -64,27 +66,24 @@ module _ (p : Params) (w : WalkState) (desc : ℕ) (large : Bool) (el : large �
       rw (← el, t, ex, place {n = g} (omega arith), eg, st.lsb)
       (simp (or-bit w.tables desc 62, or-bit w.tables desc 61, or-bit w.tables desc 60, or-bit w.tables desc 59, and-or))
 
-table-down : (p : Params) (w : WalkState) (desc g s x o : ℕ) → Standing p w → w.level < 3 → s ≡ stride p.largegrain → x ≡ align_down (desc % 2 ^ 48) (g % 64)
-    → Onwards p w record { tables = o; table = x; top = w.lsb; lsb = w.lsb - s; level = w.level + 1 }
-table-down p w desc g s x o st h es ex = grind arith
-
 pub table-leads : (p : Params) (w : WalkState) (desc g s x o : ℕ) → Standing p w → w.level < 3 → s ≡ stride p.largegrain → x
     ≡ align_down (desc % 2 ^ 48) (g % 64)
     → Leads p w (Next record { tables = o; table = x; top = w.lsb; lsb = w.lsb - s; level = w.level + 1 })
-table-leads p w desc g s x o st h es ex = next (table-down p w desc g s x o st h es ex)
-
-pub leaf_leads : (p : Params) (w : WalkState) (leaf : Leaf) → Leads p w (Found leaf)
-leaf_leads p w leaf = found
-
-pub fault_leads : (p : Params) (w : WalkState) (status : ℕ) → Leads p w (Fault status)
-fault_leads p w status = fault
+table-leads p w desc g s x o st h es ex = grind arith
 
 -- the two parts of an output address fit together, wherever they meet
 pub parts_fit : (va desc x o n : ℕ) → x ≡ align_down (desc % 2 ^ 48) (n % 64) → o ≡ va % 2 ^ (n % 64) → x + o < 2 ^ 64
 parts_fit va desc x o n ex eo = search rules
 
-pub ruleset addresses = (skip-fits, skip-more, index-fits, address-fits, address_is)
+pub ruleset addresses = (index_is, index-small)
 
-pub ruleset tables = (table-beyond, table-onward, fault_leads, table-leads)
+pub ruleset tables = (table-leads)
 
-pub ruleset leaves = (parts_fit, leaf_leads, fault_leads)
+pub ruleset leaves = (parts_fit)
+
+-- Bit k of the permission byte is set exactly where the permission check allows that access.
+
+-- the law: singlepriv, WXN, the attributes; whether the access is privileged, and what it is
+pub permission-bit : (singlepriv wxn : Bool) (p : Permissions) (privileged : Bool) (a : Access)
+    → bit_on (permission_byte singlepriv wxn p) (kind_bit a + first_bit privileged) ≡ allowed singlepriv privileged wxn p a
+permission-bit singlepriv wxn p privileged a = search rules

@@ -1,20 +1,14 @@
 -- What a walk reads and answers at each level, by the numbers of the levels.
-use Rattle.std.proofs.Common.{rules}
-use Rattle.std.specs.Prelude.{◌≡◌, Bool, not, ◌&&◌, ◌||◌, ℕ, zero, suc, ◌+◌, ◌%◌, ◌^◌, ◌≤◌, ◌<◌, Option, Ok, Err}
 use Rattle.std.proofs.Common.{arith}
-use Rattle.word.specs.Bits.{bit_on, align_down}
-use Rattle.word.proofs.BitLaws.{cut_field}
+use Rattle.std.specs.Prelude.{◌≡◌, Bool, not, ◌&&◌, ◌||◌, ℕ, zero, suc, Option, Ok, Err}
 use Rattle.sysreg.specs.Regs.{single_priv}
 use Rattle.walk.specs.Descriptor.{not_global}
-use Rattle.walk.specs.Table.{Result, mapped, faults, grainsize}
-use Rattle.walk.specs.Table.{addrselectbottom, outputaddress, Lookup, Next, deeper, ends, range_of, params_of}
-use Rattle.walk.specs.Table.{table_next, leaf_translation, leaf_result, level_next, descaddr, lookup_next, walk_from, walk_range, table_walk}
-use Rattle.walk.specs.Walk.{walked_of, walk_of}
+use Rattle.walk.specs.Table.{Result, mapped, faults, addrselectbottom, outputaddress, Lookup, Next, deeper, ends, range_of, params_of}
+use Rattle.walk.specs.Table.{table_next, leaf_translation, leaf_result, level_next, lookup_next, walk_from, walk_range, table_walk}
+use Rattle.walk.specs.Walk.{walk_of}
 use Rattle.walk.specs.Answers.{Walked}
-use Rattle.walk.specs.Numbers.{StartsAt, LeafMaps, TableMaps, FirstMaps, EachLeaf}
-use Rattle.walk.specs.declared.{regime.Bank.Bank, range.Range.Range}
+use Rattle.walk.specs.declared.{regime.Bank.Bank, level.Params.Params}
 use Rattle.sysreg.specs.declared.regs.Regime.{Regime}
-use Rattle.walk.specs.declared.{level.Params.Params, level.Leaf.Leaf}
 
 -- WHAT A WALK ANSWERS
 
@@ -38,14 +32,10 @@ module _ (p : Params) (va : ℕ) where
   from-placed zero memory l = tt
   from-placed (suc n) memory l = grind (arith, lookup-placed, from-placed n)
 
-  range-placed : (g : Range) (memory : ℕ → Option ℕ) → Placed p.largegrain p.singlepriv va (walk_range p g va memory)
-  unfolding walk_range
-  range-placed g memory = grind (arith, from-placed)
-
 table-walk-placed : (s : Bank) (r : Regime) (va : ℕ) (memory : ℕ → Option ℕ)
     → Placed (range_of s r va).largegrain (single_priv r) va (table_walk s r va memory)
-unfolding table_walk params_of
-table-walk-placed s r va memory = grind (arith, range-placed)
+unfolding table_walk walk_range params_of
+table-walk-placed s r va memory = grind (arith, from-placed)
 
 -- and as the code's types hold it
 abbrev PlacedWalked : Bool → Bool → ℕ → Walked → Type 0
@@ -53,59 +43,7 @@ PlacedWalked large single va (Ok leaf) =
     (leaf.oa ≡ outputaddress (addrselectbottom large leaf.level) va leaf.desc) × (leaf.global ≡ (single || not (not_global leaf.desc)))
 PlacedWalked large single va (Err n) = Unit {0}
 
-walked-placed : (large single wxn : Bool) (va : ℕ) (x : Result) → Placed large single va x → PlacedWalked large single va (walked_of single wxn x)
-walked-placed large single wxn va x h = grind arith
-
-walk-placed : (s : Bank) (r : Regime) (va : ℕ) (memory : ℕ → Option ℕ)
+pub walk_placed : (s : Bank) (r : Regime) (va : ℕ) (memory : ℕ → Option ℕ)
     → PlacedWalked (range_of s r va).largegrain (single_priv r) va (walk_of s r va memory)
 unfolding walk_of
-walk-placed s r va memory = grind (arith, walked-placed, table-walk-placed)
-
-module _ (s : Bank) (r : Regime) (va : ℕ) (memory : ℕ → Option ℕ) (leaf : Leaf) where
-  answer-placed : walk_of s r va memory ≡ Ok leaf → PlacedWalked (range_of s r va).largegrain (single_priv r) va (Ok leaf)
-  answer-placed e = grind (arith, walk-placed)
-
-pub leaf-maps : (large : Bool) (level low : ℕ) → addrselectbottom large level ≡ low → LeafMaps large level low
-leaf-maps large level low n s r va memory leaf eg e el = grind (arith, answer-placed)
-
-pub leaf-global : EachLeaf (λ r leaf. leaf.global ≡ (single_priv r || not (bit_on leaf.desc 11)))
-leaf-global s r va memory leaf e = (answer-placed s r va memory leaf e).1
-
--- WHERE A TABLE LEADS
-
-record Led (p : Params) (l : Lookup) (desc : ℕ) (k : Lookup) : Type 0 where
-  level : k.level ≡ l.level + 1
-  base : k.baseaddress ≡ align_down (desc % 2 ^ 48) (grainsize p.largegrain)
-  top : k.top ≡ addrselectbottom p.largegrain l.level
-  ap1 : k.ap_table1 ≡ (l.ap_table1 || bit_on desc 62)
-  ap0 : k.ap_table0 ≡ (l.ap_table0 || (not p.singlepriv && bit_on desc 61))
-  xn : k.xn_table ≡ (l.xn_table || bit_on desc 60)
-  pxn : k.pxn_table ≡ (l.pxn_table || (not p.singlepriv && bit_on desc 59))
-
-pub table-maps : (large : Bool) (level grain high low : ℕ) → grainsize large ≡ grain → addrselectbottom large level ≡ high + 1
-    → addrselectbottom large (level + 1) ≡ low → low ≤ high → TableMaps large level grain high low
-unfolding descaddr level_next table_next
-table-maps large level grain high low eg et eb h p va l k desc ep el e = search (rules, cut_field)
-
-pub first-maps : (large : Bool) (from to level n : ℕ) → StartsAt large from to level → addrselectbottom large level ≡ n → n < from → FirstMaps large from to n
-unfolding descaddr
-first-maps large from to level n begins eb low p g va ep eg a b = grind (arith, cut_field)
-
--- WHAT TABLES FORBID
-
-module _ (p : Params) (va : ℕ) (l k : Lookup) (desc : ℕ) (e : level_next p va l desc ≡ deeper k) where
-  pub adds-ap1 : k.ap_table1 ≡ (l.ap_table1 || bit_on desc 62)
-  unfolding level_next table_next
-  adds-ap1 = grind arith
-
-  pub adds-ap0 : k.ap_table0 ≡ (l.ap_table0 || (not p.singlepriv && bit_on desc 61))
-  unfolding level_next table_next
-  adds-ap0 = grind arith
-
-  pub adds-xn : k.xn_table ≡ (l.xn_table || bit_on desc 60)
-  unfolding level_next table_next
-  adds-xn = grind arith
-
-  pub adds-pxn : k.pxn_table ≡ (l.pxn_table || (not p.singlepriv && bit_on desc 59))
-  unfolding level_next table_next
-  adds-pxn = grind arith
+walk_placed s r va memory = grind (arith, table-walk-placed)

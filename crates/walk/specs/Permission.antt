@@ -68,13 +68,11 @@ pub record Rights : Type 0 where
 
 abbrev pub reads : DataAccess → Bool
 reads none = false
-reads read_only = true
-reads read_write = true
+reads d = true
 
 abbrev pub writes : DataAccess → Bool
-writes none = false
-writes read_only = false
 writes read_write = true
+writes d = false
 
 abbrev pub rights : DataAccess → Bool → Rights
 rights d x = record { r = reads d; w = writes d; x = x }

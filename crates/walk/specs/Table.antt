@@ -3,17 +3,16 @@
 -- Where the pseudocode has something else, a comment names the row of docs/DIFFERENCES.md. Left out of it are: ns_table, and with it what it does to
 -- nG (M1), to the NS of the output (A6, M17) and to that of the descriptors' addresses (M17); reversedescriptors (A10); stage 2 of a descriptor's address (M3);
 -- the contiguous bit (O4); a memory type (D3, D4, O7). What it leaves open is settled by B1, O1, O2 and O3.
-use Rattle.std.specs.Prelude.{if◌then◌else◌, Bool, true, false, not, ◌&&◌, ◌||◌, ℕ, zero, suc, ◌+◌, ◌-◌, ◌*◌, ◌/◌, ◌%◌, ◌^◌, min, max, eqb, ltb, Option, Some, None}
+use Rattle.std.specs.Prelude.{if◌then◌else◌, Bool, true, false, not, ◌&&◌, ◌||◌, ℕ, zero, suc, ◌+◌, ◌-◌, ◌*◌, ◌/◌, ◌%◌, ◌^◌, min, max, eqb, ltb}
+use Rattle.std.specs.Prelude.{Option, Some, None}
 use Rattle.word.specs.Bits.{bit_on, field, align_down}
-use Rattle.sysreg.specs.Tcr.{t0sz, epd0, tg0, t1sz, epd1, tg1, ips, ps}
+use Rattle.sysreg.specs.Shape.{t0sz, epd0, tg0, t1sz, epd1, tg1, ips, ps}
 use Rattle.walk.specs.Descriptor.{valid, table_or_page, ap1, ap2, af, not_global, pxn, uxn, pxn_table, uxn_table, ap_table0, ap_table1}
 use Rattle.walk.specs.Permission.{under_ap_table, under_xn_table}
-use Rattle.walk.specs.Regime.{wxn_of}
+use Rattle.walk.specs.Regime.{wxn_of, pa_size}
 use Rattle.sysreg.specs.Regs.{single_priv}
-use Rattle.walk.specs.Size.{pa_size}
-use Rattle.walk.specs.declared.{regime.Bank.Bank, range.Range.Range}
+use Rattle.walk.specs.declared.{regime.Bank.Bank, range.Range.Range, rights.Permissions.Permissions, level.Params.Params}
 use Rattle.sysreg.specs.declared.regs.Regime.{Regime}
-use Rattle.walk.specs.declared.{rights.Permissions.Permissions, level.Params.Params}
 use Rattle.sysreg.specs.declared.regs.Regime.TheVariants.{El1, El2, El3}
 
 -- how a walk ends short of a leaf, with the level
@@ -80,15 +79,7 @@ upper_range s =
     }
 
 abbrev pub only_range : Bank → Range
-only_range s =
-    record {
-      largegrain = eqb (tg0 s.tcr) 0b01;
-      baseregister = s.ttbr0;
-      txsz = t0sz s.tcr;
-      disabled = false;
-      ps = ps s.tcr;
-      upper = false;
-    }
+only_range s = record (lower_range s) { disabled = false; ps = ps s.tcr }
 
 unfoldable pub range_of : Bank → Regime → ℕ → Range
 range_of s El1 va = if bit_on va 55 then upper_range s else lower_range s
@@ -99,7 +90,7 @@ range_of s El3 va = only_range s
 abbrev pub inputsize : Range → ℕ
 inputsize g = 64 - max 16 (min 39 g.txsz)
 
--- basefound: va<top:inputsize> is all ones in an upper range, and zero in a lower one. The address is untagged, so top is 63 (Tag.antt)
+-- basefound: va<top:inputsize> is all ones in an upper range, and zero in a lower one. The address is untagged, so top is 63 (Regime.antt)
 abbrev pub in_range : Range → ℕ → Bool
 in_range g va = eqb (va / 2 ^ inputsize g) (if g.upper then 2 ^ (64 - inputsize g) - 1 else 0)
 

@@ -1,8 +1,8 @@
 // A stage 1 descriptor by the manual's field names (DDI 0487, VMSAv8-64 translation table format descriptors).
 ghost use Rattle.std.specs.Prelude.{◌≡◌, ◌%◌, ◌^◌, ◌≤◌};
 ghost use Rattle.word.specs.Bits.{align_down};
-ghost use Rattle.walk.specs.Descriptor.{valid, table_or_page, ap1, ap2, af, not_global, pxn, uxn};
-ghost use Rattle.walk.specs.Descriptor.{pxn_table, uxn_table, ap_table0, ap_table1};
+ghost use Rattle.walk.specs.Descriptor.{valid, table_or_page, ap1, ap2, af, not_global, pxn, uxn, pxn_table, uxn_table};
+ghost use Rattle.walk.specs.Descriptor.{ap_table0, ap_table1};
 ghost use Rattle.walk.specs.Table.{beyond};
 
 use word::bits;
@@ -18,7 +18,7 @@ pub(crate) fn address(x: u64, n: u64) -> u64
 }
 
 /// Whether bits 47 to n are not all zero: an address beyond n bits.
-#[tactic(auto, using(crate::proofs::Leaves::ends))]
+#[tactic(auto, using(crate::proofs::Levels::ends))]
 pub(crate) fn beyond(x: u64, n: u64) -> bool
     requires { n ≤ 44 }
     ensures { result ≡ beyond n x }

@@ -1,7 +1,7 @@
 // The physical address with stage 1 off.
 ghost use Rattle.std.specs.Prelude.{◌≡◌};
-ghost use Rattle.walk.specs.Flat.{flat_by};
-ghost use Rattle.walk.specs.Tag.{untagged};
+ghost use Rattle.walk.specs.Walk.{flat_by};
+ghost use Rattle.walk.specs.Regime.{untagged};
 
 use crate::range::PA_BITS;
 use crate::regime::Bank;

@@ -1,8 +1,7 @@
 // How an address ends with nothing cached: what AT, the page census and every other look at the tables start from.
 ghost use Rattle.std.specs.Prelude.{◌≡◌};
 ghost use Rattle.word.specs.Ram.{word_at};
-ghost use Rattle.walk.specs.Fetches.{fresh_reads};
-ghost use Rattle.walk.specs.Fresh.{fresh_of};
+ghost use Rattle.walk.specs.Walk.{fresh_reads, fresh_of};
 
 use crate::fsc::FSC_ADDR_SIZE;
 use crate::level::Walked;
@@ -20,7 +19,7 @@ impl Bank {
     /// The fresh answer of `va`, tag and all, in the regime, over the RAM that starts at `base`; and how many
     /// descriptors its walk read.
     #[inline(always)]
-    #[tactic(auto, unfolding(crate::specs::Fresh::fresh_of, crate::specs::Fetches::fresh_reads))]
+    #[tactic(auto, unfolding(crate::specs::Walk::fresh_of, crate::specs::Walk::fresh_reads))]
     pub fn fresh_with_reads(self, regime: Regime, va: u64, base: u64, ram: &[u8]) -> (Fresh, u8)
         ensures fresh { result.0 ≡ fresh_of self regime va (word_at base ram.now 8) }
         ensures reads { result.1 ≡ fresh_reads self regime va (word_at base ram.now 8) }

@@ -89,7 +89,7 @@ pub(crate) fn lsb_of(largegrain: bool, level: u64) -> u64
 }
 
 // The address of the descriptor that va selects.
-#[tactic(auto, using(crate::proofs::Levels::addresses))]
+#[tactic(auto, using(crate::proofs::Levels::addresses), unfolding(crate::specs::Table::descaddr))]
 pub(crate) fn descriptor_address(p: Params, w: WalkState, va: u64) -> u64
     requires { Standing p w }
     ensures { result ≡ descaddr p va (lookup_of p w) }
@@ -100,7 +100,7 @@ pub(crate) fn descriptor_address(p: Params, w: WalkState, va: u64) -> u64
 }
 
 // A table descriptor: the next level, unless the table lies beyond the output size.
-#[tactic(auto, using(crate::proofs::Levels::tables))]
+#[tactic(auto, using(crate::proofs::Levels::tables), unfolding(crate::specs::Table::table_next))]
 fn table_step(p: Params, w: WalkState, desc: Descriptor) -> Step
     requires standing { Standing p w }
     requires level_bound { (w.level < 3) × (p.outputsize ≤ 44) }
@@ -169,7 +169,7 @@ fn leaf_step(p: Params, w: WalkState, va: u64, desc: Descriptor) -> Step
 
 // What the descriptor of the level leads to.
 #[inline(always)]
-#[tactic(auto, using(crate::proofs::Levels::fault_leads), unfolding(crate::specs::Table::lookup_next, crate::specs::Table::level_next))]
+#[tactic(auto, unfolding(crate::specs::Table::lookup_next, crate::specs::Table::level_next))]
 pub(crate) fn lookup(p: Params, w: WalkState, va: u64, base: u64, ram: &[u8]) -> Step
     requires standing { Standing p w }
     requires outputsize_bound { p.outputsize ≤ 44 }

@@ -1,6 +1,6 @@
 // What the registers say of a walk, and where it begins.
 ghost use Rattle.std.specs.Prelude.{◌≡◌, ◌+◌, ◌*◌, ◌%◌, ◌≤◌, ◌<◌, min};
-ghost use Rattle.walk.specs.Size.{pa_size};
+ghost use Rattle.walk.specs.Regime.{pa_size};
 ghost use Rattle.walk.specs.Table.{range_of, params_of, inputsize, in_range, startlevel_of, addrselectbottom};
 ghost use Rattle.walk.specs.State.{begin_of};
 
@@ -25,14 +25,12 @@ pub struct Range {
     pub upper: bool,
 }
 
-/// Where a walk begins, or the status of the fault that keeps it from beginning.
-pub type Begin = Result<WalkState, u8>;
-
 /// The implemented size of a physical address, in bits (`ID_AA64MMFR0_EL1.PARange`).
 pub const PA_BITS: u64 = 44;
 
 /// `TCR.{I}PS` to a number of bits: the smallest of 32 plus four times the code, 36 plus twice the code, and the
 /// implemented size.
+#[tactic(auto, unfolding(crate::specs::Regime::pa_size))]
 pub fn pa_bits(ps: u64) -> u64
     ensures formula { result ≡ min (32 + 4 * (ps % 8)) (min (36 + 2 * (ps % 8)) PA_BITS) }
     ensures value { result ≡ pa_size (ps % 8) }
@@ -73,7 +71,7 @@ impl Bank {
     }
 
     /// What holds at every level of a walk.
-    #[tactic(auto, using(crate::proofs::Leaves::masks), unfolding(crate::specs::Table::params_of))]
+    #[tactic(auto, using(crate::proofs::Levels::masks), unfolding(crate::specs::Table::params_of))]
     pub fn params(self, regime: Regime, g: Range) -> Params
         ensures value { result ≡ params_of self regime g }
         ensures outputsize_bound { result.outputsize ≤ 44 }
@@ -96,7 +94,7 @@ impl Range {
         64 - self.txsz.clamp(16, 39)
     }
 
-    #[tactic(auto, using(crate::proofs::Leaves::ones_shifted))]
+    #[tactic(auto, using(crate::proofs::Levels::ones_shifted))]
     fn has(self, va: u64) -> bool
         ensures { result ≡ in_range self va }
     {
@@ -122,9 +120,10 @@ impl Range {
         }
     }
 
-    // The first table, unless the address is out of range, walks are disabled or the table lies beyond the output size.
+    // Where a walk begins: the first table, or the status of the fault that keeps it from beginning: the address is out of
+    // range, walks are disabled or the table lies beyond the output size.
     #[tactic(auto, unfolding(crate::specs::State::begin_of))]
-    pub(crate) fn begin(self, outputsize: u64, va: u64) -> Begin
+    pub(crate) fn begin(self, outputsize: u64, va: u64) -> Result<WalkState, u8>
         requires { outputsize ≤ 44 }
         ensures { result ≡ begin_of self outputsize va }
     {

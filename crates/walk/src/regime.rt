@@ -1,7 +1,6 @@
 // The registers of one translation regime, and what of an address a walk sees.
 ghost use Rattle.std.specs.Prelude.{◌≡◌};
-ghost use Rattle.walk.specs.Regime.{bank_of, stage1_on};
-ghost use Rattle.walk.specs.Tag.{untagged};
+ghost use Rattle.walk.specs.Regime.{bank_of, stage1_on, untagged};
 
 use sysreg::regs::{Control, HCR_DC, HCR_TGE, Regime, SCR_NS, SCTLR_M};
 
@@ -45,7 +44,7 @@ impl Bank {
     }
 
     /// `va` as the walk sees it, with top byte ignore applied.
-    #[tactic(auto, unfolding(crate::specs::Tag::untagged))]
+    #[tactic(auto, unfolding(crate::specs::Regime::untagged))]
     pub fn untag(&self, regime: Regime, va: u64) -> u64
         ensures { result ≡ untagged self.now.tcr regime va }
     {

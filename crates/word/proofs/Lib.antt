@@ -1,4 +1,1 @@
-pub mod Window
-pub mod Bytes
-pub mod BitLaws
 pub mod RamLaws

@@ -1,14 +1,7 @@
 // Bit fields whose place is a variable, and small values as words. A place is taken modulo 64, as the machine's shifts
 // take it, so that each function is total.
 ghost use Rattle.std.specs.Prelude.{◌≡◌, ◌+◌, ◌%◌, ◌^◌, ◌≤◌};
-ghost use Rattle.word.specs.Bits.{bit_on, align_down, wrap, flag};
-
-/// Whether bit `i` of `x` is set.
-pub fn bit(x: u64, i: u64) -> bool
-    ensures { result ≡ bit_on x (i % 64) }
-{
-    x >> (i % 64) & 1 != 0
-}
+ghost use Rattle.word.specs.Bits.{align_down, wrap, flag};
 
 /// `x` with its low `n` bits clear.
 pub fn align_down(x: u64, n: u64) -> u64

@@ -71,7 +71,7 @@ pub fn read(base: u64, ram: &[u8], width: Width, pa: u64) -> Option<u64>
 }
 
 // The bytes of a value over all of a part, the lowest first.
-#[tactic(auto, using(crate::proofs::Window::bytes_end))]
+#[tactic(auto, using(crate::proofs::RamLaws::bytes_end))]
 fn put_bytes(part: &mut [u8], value: u64)
     ensures { part.new ≡ bytes_of (length part.old) value }
 {

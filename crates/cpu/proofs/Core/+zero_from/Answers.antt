@@ -1,7 +1,6 @@
 -- A store that stops ends the zeroing.
 use Rattle.std.proofs.Common.{rules}
-use Rattle.cpu.proofs.Zeroing.{stops-is, stops-ram}
-use Rattle.cpu.proofs.ZeroWork.{stops-work}
+use Rattle.cpu.proofs.ZeroLaws.{stops-is, stops-ram, stops-work}
 use Rattle.cpu.proofs.Core.+zero_from.Goals as goal
 
 pub returns-in_err-write-clause-value : goal.returns-in_err-write-clause-value

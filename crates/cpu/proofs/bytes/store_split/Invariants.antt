@@ -1,7 +1,6 @@
 -- The bytes from `i` on have the verdict of them all, and what is left to write makes RAM what the whole value makes it.
 use Rattle.std.proofs.Common.{◌≡◌, ◌-◌, ◌≤◌, length}
-use Rattle.cpu.specs.Place.{first_outside, bytes_before}
-use Rattle.cpu.specs.Bytes.{split_stored}
+use Rattle.cpu.specs.Bytes.{first_outside, bytes_before, split_stored}
 use Rattle.cpu.proofs.bytes.store_split.Given as goal
 
 abbrev pub invariant-loop-i : goal.invariant-loop-i
@@ -10,7 +9,7 @@ invariant-loop-i l = record {
   long : length l.ram ≡ length l.fn.ram;
   judged : first_outside l.base (length l.ram) l.p l.i (l.n - l.i) ≡ first_outside l.base (length l.fn.ram) l.p 0 l.n;
   left :
-      split_stored l.base l.p l.v l.i (bytes_before (first_outside l.base (length l.fn.ram) l.p 0 l.n) l.n - l.i) l.ram
+      split_stored l.base l.p l.v l.i (bytes_before (first_outside l.base (length l.ram) l.p l.i (l.n - l.i)) l.n - l.i) l.ram
       ≡ split_stored l.base l.p l.value 0 (bytes_before (first_outside l.base (length l.fn.ram) l.p 0 l.n) l.n) l.fn.ram;
 }
 

@@ -1,12 +1,15 @@
-use Rattle.std.proofs.Common.{rules}
-use Rattle.cpu.proofs.Places.{judge-on, judge-out, judge-in}
+use Rattle.std.proofs.Common.{arith, ◌≡◌, ◌+◌, ◌-◌, suc}
+use Rattle.cpu.specs.Bytes.{first_outside}
 use Rattle.cpu.proofs.place.first_outside.Goals as goal
 
 pub loop-i-preserved : goal.loop-i-preserved
-loop-i-preserved c = search (judge-on, rules)
+unfolding first_outside
+loop-i-preserved c = let s : c.args.n - c.loop-i.i ≡ suc (c.args.n - (c.loop-i.i + 1)) = omega arith in grind arith
 
 pub returns-then-not-inside : goal.returns-then-not-inside
-returns-then-not-inside c = search (judge-out, rules)
+unfolding first_outside
+returns-then-not-inside c = let s : c.args.n - c.loop-i.i ≡ suc (c.args.n - (c.loop-i.i + 1)) = omega arith in grind arith
 
 pub returns : goal.returns
-returns c = search (judge-in, rules)
+unfolding first_outside
+returns c = grind arith

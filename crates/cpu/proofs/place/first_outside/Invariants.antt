@@ -1,6 +1,6 @@
 -- The bytes from `i` on have the verdict of them all.
 use Rattle.std.proofs.Common.{◌≡◌, ◌-◌, ◌≤◌}
-use Rattle.cpu.specs.Place.{first_outside}
+use Rattle.cpu.specs.Bytes.{first_outside}
 use Rattle.cpu.proofs.place.first_outside.Given as goal
 
 abbrev pub invariant-loop-i : goal.invariant-loop-i

@@ -1,4 +1,4 @@
-use Rattle.cpu.proofs.Aborting.{own-first, load-failing, store-failing, fetch-failing}
+use Rattle.cpu.proofs.OwnAddress.{own-first, load-failing, store-failing, fetch-failing}
 use Rattle.cpu.proofs.theorems.addresses_left.Goals as goal
 
 pub returns : goal.returns

@@ -1,4 +1,4 @@
-use Rattle.cpu.proofs.PlaceLaws.{lowest, all-inside}
+use Rattle.cpu.proofs.BytesLaws.{lowest, all-inside}
 use Rattle.cpu.proofs.theorems.byte_at_fault.Goals as goal
 
 pub returns : goal.returns

@@ -1,4 +1,4 @@
-use Rattle.cpu.proofs.Setting.{only-load-calls-set-last, other-calls-keep-abort}
+use Rattle.cpu.proofs.EveryCallEnds.{only-load-calls-set-last, other-calls-keep-abort}
 use Rattle.cpu.proofs.theorems.calls_that_set_addresses.Goals as goal
 
 pub returns : goal.returns

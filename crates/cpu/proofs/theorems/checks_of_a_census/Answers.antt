@@ -1,6 +1,6 @@
-use Rattle.cpu.proofs.CheckCases.{parts-allowed}
-use Rattle.cpu.proofs.Rows.{census}
+use Rattle.cpu.specs.Check.{missed_of}
 use Rattle.cpu.proofs.theorems.checks_of_a_census.Goals as goal
 
-pub returns : goal.returns
-returns c = assumption (census, parts-allowed)
+pub returns-clause-numbers : goal.returns-clause-numbers
+unfolding missed_of
+returns-clause-numbers c = assumption

@@ -1,5 +1,4 @@
-use Rattle.tlb.specs.Tlb.{flush_of, drop_page_of, drop_asid_of, retag_of, invalidate_of, broadcast_of}
-use Rattle.tlb.specs.Maintenance.{invalidated_of}
+use Rattle.tlb.specs.Tlb.{flush_of, drop_page_of, drop_asid_of, retag_of, invalidate_of, broadcast_of, invalidated_of}
 use Rattle.system.specs.Decode.{named, decode_of}
 use Rattle.system.specs.Tlbi.{scope_of, what_of, tlbi_of}
 use Rattle.cpu.specs.Core.{after_access, reg_of}

@@ -1,7 +1,5 @@
-use Rattle.cpu.proofs.OpSays.{says-by, ram-by}
-use Rattle.cpu.specs.OpLaws.{tlb-after}
-use Rattle.cpu.proofs.OpLaws.{ram-length}
-use Rattle.cpu.proofs.OpLaws.{kept, store-last, fetch-last, write-leaves}
+use Rattle.cpu.proofs.OpLaws.{says-by, ram-by, ram-length, kept, store-last, fetch-last, write-leaves}
+use Rattle.cpu.proofs.OpLaws.{tlb-after}
 use Rattle.cpu.proofs.theorems.effect_of_operations.Goals as goal
 
 pub returns : goal.returns

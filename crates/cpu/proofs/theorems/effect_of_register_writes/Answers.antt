@@ -1,11 +1,9 @@
 use Rattle.sysreg.specs.Encoding.{banked_at, register_at}
 use Rattle.sysreg.specs.Write.{control_with, sys_with, write_reg}
 use Rattle.sysreg.specs.Shape.{same_shape, asid_base, asid_of}
-use Rattle.tlb.specs.Tlb.{flush_of, retag_of}
-use Rattle.tlb.specs.Maintenance.{reshaped_of, retagged_of}
+use Rattle.tlb.specs.Tlb.{flush_of, retag_of, reshaped_of, retagged_of}
 use Rattle.cpu.specs.Core.{after_access}
-use Rattle.cpu.specs.Fit.{refit_of}
-use Rattle.cpu.specs.Registers.{with_regs, applied_of, after_register_write}
+use Rattle.cpu.specs.System.{refit_of, with_regs, applied_of, after_register_write}
 use Rattle.cpu.proofs.theorems.effect_of_register_writes.Goals as goal
 
 pub returns : goal.returns

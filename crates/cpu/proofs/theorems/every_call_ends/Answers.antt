@@ -1,5 +1,4 @@
-use Rattle.cpu.proofs.EveryCallEnds.{number-le, quiet}
-use Rattle.cpu.proofs.Refusing.{refused, refused-ram, each_call_ends}
+use Rattle.cpu.proofs.EveryCallEnds.{number-le, quiet, refused, refused-ram, each_call_ends}
 use Rattle.cpu.proofs.theorems.every_call_ends.Goals as goal
 
 pub returns : goal.returns

@@ -1,4 +1,5 @@
-use Rattle.cpu.proofs.Keeping.{reads-what-is-written, last-is-written, others-stay, reads-zero, drops-writes, nothing-else, register-rows, neighbour-rows}
+use Rattle.cpu.proofs.EveryCallEnds.{reads-what-is-written, last-is-written, others-stay, reads-zero, drops-writes, nothing-else, register-rows}
+use Rattle.cpu.proofs.EveryCallEnds.{neighbour-rows}
 use Rattle.cpu.proofs.theorems.general_registers.Goals as goal
 
 pub returns : goal.returns

@@ -1,4 +1,4 @@
-use Rattle.cpu.proofs.Looking.{looking-core, looking-ram}
+use Rattle.cpu.proofs.EveryCallEnds.{looking-core, looking-ram}
 use Rattle.cpu.proofs.theorems.looking_changes_nothing.Goals as goal
 
 pub returns : goal.returns

@@ -1,5 +1,7 @@
-use Rattle.cpu.proofs.Rows.{order, levels, windows, sizes, system, general, named-keys, other-keys}
+use Rattle.sysreg.specs.Encoding.{banked_at, register_at}
+use Rattle.cpu.specs.Check.{missed_of}
 use Rattle.cpu.proofs.theorems.numbers_of_checks.Goals as goal
 
 pub returns : goal.returns
-returns c = assumption (order, levels, windows, sizes, system, general, named-keys, other-keys)
+unfolding missed_of register_at banked_at
+returns c = assumption

@@ -1,4 +1,4 @@
-use Rattle.cpu.proofs.Endings.{loads-read, stores-write, fetches-report}
+use Rattle.cpu.proofs.OwnAddress.{loads-read, stores-write, fetches-report}
 use Rattle.cpu.proofs.theorems.reports_of_accesses.Goals as goal
 
 pub returns : goal.returns

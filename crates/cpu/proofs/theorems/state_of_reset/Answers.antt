@@ -1,9 +1,9 @@
 use Rattle.std.proofs.Common.{rules}
-use Rattle.tlb.specs.Count.{no_tallies}
-use Rattle.tlb.proofs.Lists.{replicate-at}
+use Rattle.tlb.specs.Tlb.{no_tallies}
+use Rattle.tlb.proofs.Cells.{replicate-at}
 use Rattle.exception.specs.Pstate.{spsr_of}
 use Rattle.cpu.specs.Core.{fresh_core}
-use Rattle.cpu.proofs.Keeping.{fresh-general}
+use Rattle.cpu.proofs.EveryCallEnds.{fresh-general}
 use Rattle.cpu.proofs.theorems.state_of_reset.Goals as goal
 
 pub returns : goal.returns

@@ -1,5 +1,5 @@
 use Rattle.sysreg.proofs.EncodingLaws.{key-names, key_one}
-use Rattle.sysreg.proofs.Encodings.{named-key, wide_key, key-in-range}
+use Rattle.sysreg.proofs.WriteLaws.{named-key, wide_key, key-in-range}
 use Rattle.sysreg.proofs.theorems.encodings_of_registers.Goals as goal
 
 pub returns : goal.returns

@@ -1,5 +1,5 @@
 use Rattle.system.specs.Decode.{named, decode_of}
-use Rattle.system.proofs.DecodeLaws.{other_crn}
+use Rattle.system.proofs.Words.{other_crn}
 use Rattle.system.proofs.theorems.levels_of_encodings.Goals as goal
 
 pub returns : goal.returns

@@ -1,4 +1,4 @@
-use Rattle.system.proofs.ParLaws.{manual-par, par-f, flat-fault, par-small}
+use Rattle.system.proofs.Words.{manual-par, par-f, flat-fault, par-small}
 use Rattle.system.proofs.theorems.meaning_of_par.Goals as goal
 
 pub returns : goal.returns

@@ -1,4 +1,4 @@
-use Rattle.system.proofs.TlbiLaws.{page-operand, asid-small}
+use Rattle.system.proofs.Words.{page-operand, asid-small}
 use Rattle.system.proofs.theorems.operands_of_tlbi.Goals as goal
 
 pub returns : goal.returns

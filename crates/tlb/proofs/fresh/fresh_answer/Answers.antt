@@ -1,7 +1,7 @@
-use Rattle.walk.proofs.FreshLaws.{fresh-leaf}
+use Rattle.walk.proofs.WalkBounds.{fresh-leaf}
 use Rattle.word.specs.Ram.{word_at}
-use Rattle.tlb.specs.Fresh.{fresh_answer}
-use Rattle.tlb.proofs.Judging.{judged-leaf}
+use Rattle.tlb.specs.Translate.{fresh_answer}
+use Rattle.tlb.proofs.Cells.{judged-leaf}
 use Rattle.tlb.proofs.fresh.fresh_answer.Goals as goal
 
 pub returns-in-Ended-Ok : goal.returns-in-Ended-Ok

@@ -1,4 +1,4 @@
-use Rattle.tlb.proofs.EveryRun.{runs}
+use Rattle.tlb.proofs.Translations.{runs}
 use Rattle.tlb.proofs.theorems.runs_of_operations.Goals as goal
 
 pub returns : goal.returns

@@ -1,8 +1,7 @@
 -- The table after those still left, from the loop's state, is the one asked for.
 use Rattle.std.proofs.Common.{◌≡◌}
 use Rattle.word.specs.Ram.{word_at}
-use Rattle.walk.specs.State.{lookup_of, Standing}
-use Rattle.walk.specs.Visits.{visit_from}
+use Rattle.walk.specs.State.{lookup_of, Standing, visit_from}
 use Rattle.walk.proofs.table.visit_from.Given as goal
 
 abbrev pub invariant-levels : goal.invariant-levels

@@ -1,5 +1,7 @@
-use Rattle.walk.proofs.Permissions.{leaf-attributes, privileged-rights, user-rights, only-rights}
+use Rattle.std.proofs.Common.{rules}
+use Rattle.walk.specs.Table.{leaf_permissions}
 use Rattle.walk.proofs.theorems.permissions_by_expressions.Goals as goal
 
-pub returns : goal.returns
-returns c = assumption (leaf-attributes, privileged-rights, user-rights, only-rights)
+pub returns-clause-leaf : goal.returns-clause-leaf
+unfolding leaf_permissions
+returns-clause-leaf c = λ p l desc. search rules

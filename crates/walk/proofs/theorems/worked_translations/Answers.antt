@@ -1,8 +1,7 @@
 use Rattle.word.specs.Ram.{word_at, little_endian, bytes_of}
-use Rattle.walk.specs.Tag.{untagged}
-use Rattle.walk.specs.Size.{pa_size}
-use Rattle.walk.specs.Table.{range_of, params_of, table_next, leaf_permissions, leaf_translation, leaf_result, level_next, descaddr, lookup_next, walk_from}
-use Rattle.walk.specs.Table.{walk_range, table_walk}
+use Rattle.walk.specs.Regime.{untagged, pa_size}
+use Rattle.walk.specs.Table.{range_of, params_of, table_next, leaf_permissions, leaf_translation, leaf_result, level_next, descaddr, lookup_next}
+use Rattle.walk.specs.Table.{walk_from, walk_range, table_walk}
 use Rattle.walk.specs.Walk.{walk_of}
 use Rattle.walk.specs.Cases.{judged, registers, translated, row}
 use Rattle.walk.proofs.theorems.worked_translations.Goals as goal

@@ -1,5 +1,5 @@
 use Rattle.std.proofs.Common.{arith, refl}
-use Rattle.word.proofs.Bytes.{four-bytes, rest-index}
+use Rattle.word.proofs.RamLaws.{four-bytes, rest-index}
 use Rattle.word.proofs.ram.load_le.Goals as goal
 
 -- a word is the sum of its bytes at their places

@@ -1,5 +1,5 @@
 use Rattle.std.proofs.Common.{ℕ, ◌∙◌, arith, length-set}
-use Rattle.word.proofs.Window.{bytes_turn}
+use Rattle.word.proofs.RamLaws.{bytes_turn}
 use Rattle.word.proofs.ram.put_bytes.Goals as goal
 
 pub loop-i-preserved : goal.loop-i-preserved

@@ -1,7 +1,7 @@
 use Rattle.std.proofs.Common.{◌≡◌, true, arith}
 use Rattle.std.proofs.lemmas.Grind.{common_steps}
 use Rattle.word.specs.Bits.{bit0}
-use Rattle.walk.proofs.Leaves.{neither_mask}
+use Rattle.walk.proofs.Levels.{neither_mask}
 use Rattle.walk.proofs.regime.Bank.stage1_on.Goals as goal
 
 pub returns-else-self-eq0 : goal.returns-else-self-eq0

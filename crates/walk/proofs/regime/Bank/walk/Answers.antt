@@ -15,9 +15,10 @@ levels-init c =
 
 pub levels-preserved : goal.levels-preserved
 levels-preserved c =
+    let memory = word_at c.args.base c.args.ram.now 8 in
     let s = c.lookup.ensures in
-    let rest = reads-on _ _ _ _ _ s.result_value s.leads _ c.in-Next.is c.levels.invariant.0 in (
-      stands _ _ _ _ _ s.result_value s.leads _ c.in-Next.is,
-      goes_on _ _ _ _ _ s.result_value s.leads _ _ c.in-Next.is c.levels.invariant.1,
+    let rest = reads-on memory c.params-p.result c.levels.w c.args.va _ s.result_value s.leads _ c.in-Next.is c.levels.invariant.0 in (
+      stands memory c.params-p.result c.levels.w c.args.va _ s.result_value s.leads _ c.in-Next.is,
+      goes_on memory c.params-p.result c.levels.w c.args.va _ s.result_value s.leads _ _ c.in-Next.is c.levels.invariant.1,
       omega (arith, rest, c.levels.invariant.2),
     )

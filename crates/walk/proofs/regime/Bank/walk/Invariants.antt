@@ -3,8 +3,7 @@ use Rattle.std.specs.Prelude.{length}
 use Rattle.std.proofs.Common.{◌≡◌, ◌+◌, ◌-◌}
 use Rattle.word.specs.Ram.{word_at}
 use Rattle.walk.specs.Table.{walk_from}
-use Rattle.walk.specs.Walk.{walked_of, walk_of}
-use Rattle.walk.specs.Fetches.{fetches_from, fetches_of}
+use Rattle.walk.specs.Walk.{walked_of, walk_of, fetches_from, fetches_of}
 use Rattle.walk.specs.State.{lookup_of, Standing}
 use Rattle.walk.proofs.regime.Bank.walk.Given as goal
 
