@@ -2,8 +2,7 @@
 use Rattle.std.specs.Prelude.{if◌then◌else◌, Bool, List, [], ◌∷◌, ℕ, ◌+◌, get_or, slice_set, length, Result, Ok, Err}
 use Rattle.word.specs.Bits.{flag}
 use Rattle.word.specs.Ram.{word_at}
-use Rattle.walk.specs.Walk.{walk_of}
-use Rattle.walk.specs.Fetches.{fetches_of}
+use Rattle.walk.specs.Walk.{walk_of, fetches_of}
 use Rattle.walk.specs.declared.{regime.Bank.Bank, level.Leaf.Leaf}
 use Rattle.sysreg.specs.declared.regs.Regime.{Regime}
 use Rattle.sysreg.specs.declared.regs.NoSuchRegime.{NoSuchRegime}

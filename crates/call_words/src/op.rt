@@ -170,7 +170,6 @@ fn abort_of(code: u64, a: u64, b: u64, c: u64) -> DecodedCall
 }
 
 // The call that eight words name.
-#[inline(always)]
 #[tactic(auto, unfolding(crate::specs::Ops::call_of))]
 pub fn call_of(op: &[u64; 8]) -> DecodedCall
     ensures { result ≡ call_of op.now }

@@ -1,9 +1,9 @@
 // A reply as a number and a report, as four words, and as the five of a step.
 ghost use Rattle.std.specs.Prelude.{◌≡◌};
 ghost use Rattle.call_words.specs.Replies.{exception_code, stop_code, code_by, exception_value, stop_value, value_by};
-ghost use Rattle.call_words.specs.Replies.{exception_reads, stop_reads, reads_by};
-ghost use Rattle.call_words.specs.Replies.{exception_words, stop_words, words_by, step_words};
-ghost use Rattle.cpu.specs.Replies.{storing};
+ghost use Rattle.call_words.specs.Replies.{exception_reads, stop_reads, reads_by, exception_words, stop_words};
+ghost use Rattle.call_words.specs.Replies.{words_by, step_words};
+ghost use Rattle.cpu.specs.Check.{storing};
 
 use cpu::call::Reply;
 use exception::kind::{Exception, Stop};

@@ -1,9 +1,10 @@
 -- The four cores after a call, core by core.
-use Rattle.std.specs.Prelude.{if◌then◌else◌, ◌≡◌, refl, ℕ, zero, suc, ◌<◌, ◌==◌, Bool, true, false, List, [], ◌∷◌, nat_lt, length, slice_set, Option, Some, None}
+use Rattle.std.specs.Prelude.{if◌then◌else◌, ◌≡◌, refl, ℕ, zero, suc, ◌<◌, ◌==◌, Bool, true, false, List, [], ◌∷◌, nat_lt, length, slice_set, Option}
+use Rattle.std.specs.Prelude.{Some, None}
 use Rattle.std.proofs.Common.{sym, ap, ◌∙◌, arith}
 use Rattle.tlb.specs.declared.{Inval.Inval}
 use Rattle.cpu.specs.Bare.{bare_of}
-use Rattle.cpu.specs.Replies.{refuses}
+use Rattle.cpu.specs.Check.{refuses}
 use Rattle.cpu.specs.Step.{step_of}
 use Rattle.cpu.specs.declared.{Core.Core, call.Call.Call}
 use Rattle.history.specs.Window.{Ram}

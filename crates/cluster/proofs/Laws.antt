@@ -9,7 +9,7 @@ use Rattle.system.specs.declared.decode.Encoding.{Encoding}
 use Rattle.system.specs.declared.decode.SysOp.{SysOp}
 use Rattle.system.specs.declared.decode.SysOp.TheVariants as Op
 use Rattle.cpu.specs.Bare.{Bare, bare_of}
-use Rattle.cpu.specs.Replies.{refuses}
+use Rattle.cpu.specs.Check.{refuses}
 use Rattle.cpu.specs.Step.{step_of}
 use Rattle.cpu.specs.declared.{Core.Core, call.Call.Call}
 use Rattle.cpu.specs.declared.call.Call.TheVariants.{System}

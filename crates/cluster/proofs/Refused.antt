@@ -4,10 +4,9 @@ use Rattle.std.proofs.Common.{refl, sym, ap, ◌∙◌, arith}
 use Rattle.cpu.specs.declared.{Core.Core, call.Call.Call, call.Reply.Reply, check.Check.Check}
 use Rattle.cpu.specs.Says.{undefined, unimplemented}
 use Rattle.cpu.specs.EveryCallEnds.{Outcome, number, says, outcome_of, Ran}
-use Rattle.cpu.specs.Replies.{refuses}
-use Rattle.cpu.specs.Check.{core_of}
+use Rattle.cpu.specs.Check.{refuses, core_of}
 use Rattle.cpu.specs.Step.{Stepped, step_of, ram_after}
-use Rattle.cpu.proofs.Refusing.{each_call_ends}
+use Rattle.cpu.proofs.EveryCallEnds.{each_call_ends}
 use Rattle.cluster.specs.Cluster.{core_in, four_after}
 
 abbrev refuses_by : Outcome → Bool

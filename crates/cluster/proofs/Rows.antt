@@ -5,16 +5,13 @@ use Rattle.sysreg.specs.Encoding.{banked_at, register_at}
 use Rattle.sysreg.specs.Regs.{fresh_control, fresh_sys}
 use Rattle.sysreg.specs.Shape.{same_shape, asid_base, asid_of}
 use Rattle.sysreg.specs.Write.{control_with, sys_with, write_reg}
-use Rattle.tlb.specs.Maintenance.{invalidated_of, reshaped_of, retagged_of}
-use Rattle.tlb.specs.Tlb.{flush_of, drop_page_of, drop_asid_of, retag_of, invalidate_of, broadcast_of}
+use Rattle.tlb.specs.Tlb.{invalidated_of, reshaped_of, retagged_of, flush_of, drop_page_of, drop_asid_of, retag_of, invalidate_of, broadcast_of}
 use Rattle.system.specs.Decode.{named, decode_of}
 use Rattle.system.specs.Tlbi.{scope_of, what_of, tlbi_of}
 use Rattle.cpu.specs.Core.{zeros, fresh_core, reg_of, set_reg, after_access}
 use Rattle.cpu.specs.Check.{missed_of}
-use Rattle.cpu.specs.Fit.{refit_of}
-use Rattle.cpu.specs.Registers.{with_regs, applied_of, after_register_write, set_level}
+use Rattle.cpu.specs.System.{refit_of, with_regs, applied_of, after_register_write, set_level, tlbi_core, sys_of}
 use Rattle.cpu.specs.Step.{run_of, step_of}
-use Rattle.cpu.specs.System.{tlbi_core, sys_of}
 use Rattle.cluster.specs.Rows as Statement
 
 pub form-rows : Statement.form_rows

@@ -93,7 +93,7 @@ module _ (cs : List Core) (s : Quiet cs) (n base : ℕ) (ram : List ℕ) (x : Ca
       go true e = subst Quiet (sym (above-same cs n base ram x e)) s
       go false e = subst Quiet (sym (after-quiet cs n base ram x s.long e (low-four n e) (s.quiet n))) (made-quiet cs n d v s.quiet)
 
-  heard-same : (o : Option Inval) (b : Core) → heard o b ≡ heard_by real machine sharing x o b
+  heard-same : (o : Option Inval) (b : Core) → heard o b ≡ heard_by real machine sharing o b
   heard-same None b = refl
   heard-same (Some w) b = refl
 

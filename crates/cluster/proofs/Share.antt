@@ -2,8 +2,7 @@
 use Rattle.std.specs.Prelude.{if◌then◌else◌, ◌≡◌, refl, Bool, true, false, ℕ, ◌+◌, List, [], ◌∷◌, leb, Option, Some, None}
 use Rattle.std.proofs.Common.{sym, ap, ap₂, ◌∙◌}
 use Rattle.word.specs.Bits.{wrap}
-use Rattle.tlb.specs.Maintenance.{invalidated_of}
-use Rattle.tlb.specs.Tlb.{invalidate_of, broadcast_of, pending_after}
+use Rattle.tlb.specs.Tlb.{invalidated_of, invalidate_of, broadcast_of, pending_after}
 use Rattle.tlb.specs.declared.{access.Kind.Kind, access.Privilege.Privilege, Inval.Inval, Tlb.Tlb}
 use Rattle.system.specs.Tlbi.{reaches_others}
 use Rattle.system.specs.declared.decode.Encoding.{Encoding}
@@ -12,8 +11,8 @@ use Rattle.system.specs.declared.decode.SysOp.TheVariants as Op
 use Rattle.cpu.specs.Bare.{Bare, bare_of}
 use Rattle.cpu.specs.Step.{step_of}
 use Rattle.cpu.specs.declared.{Core.Core, call.Call.Call}
-use Rattle.cpu.specs.declared.call.Call.TheVariants.{Translate, DataPa, FetchPa, Load, Store, Fetch, System, Register, Level, Mark, General}
-use Rattle.cpu.specs.declared.call.Call.TheVariants.{Abort, Census, Windows, Flip}
+use Rattle.cpu.specs.declared.call.Call.TheVariants.{Translate, DataPa, FetchPa, Load, Store, Fetch, System, Register, Level, Mark, General, Abort}
+use Rattle.cpu.specs.declared.call.Call.TheVariants.{Census, Windows, Flip}
 use Rattle.history.specs.World.{Plain}
 use Rattle.history.specs.History.{carries, Event, steps, tlb_run}
 use Rattle.history.specs.Calls.{events_of}

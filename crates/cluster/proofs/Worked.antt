@@ -8,15 +8,12 @@ use Rattle.sysreg.specs.Encoding.{banked_at, register_at}
 use Rattle.sysreg.specs.Write.{control_with, sys_with, write_reg}
 use Rattle.sysreg.specs.Shape.{same_shape, asid_base, asid_of}
 use Rattle.sysreg.specs.declared.regs.Regime.TheVariants.{El1}
-use Rattle.walk.specs.Tag.{untagged}
-use Rattle.walk.specs.Size.{pa_size}
-use Rattle.walk.specs.Table.{range_of, params_of, table_next, leaf_permissions, leaf_translation, leaf_result, level_next, descaddr, lookup_next, walk_from, walk_range}
-use Rattle.walk.specs.Table.{table_walk}
+use Rattle.walk.specs.Regime.{untagged, pa_size}
+use Rattle.walk.specs.Table.{range_of, params_of, table_next, leaf_permissions, leaf_translation, leaf_result, level_next, descaddr, lookup_next}
+use Rattle.walk.specs.Table.{walk_from, walk_range, table_walk}
 use Rattle.walk.specs.Walk.{walk_of}
-use Rattle.tlb.specs.Maintenance.{invalidated_of, reshaped_of, retagged_of}
-use Rattle.tlb.specs.Entry.{page_dropped}
-use Rattle.tlb.specs.Hint.{place_of}
-use Rattle.tlb.specs.Tlb.{blanks, no_hints, get_of, put_of, flush_of, drop_page_of, invalidate_of, broadcast_of}
+use Rattle.tlb.specs.Tlb.{invalidated_of, reshaped_of, retagged_of, page_dropped, place_of, blanks, no_hints, get_of, put_of, flush_of, drop_page_of}
+use Rattle.tlb.specs.Tlb.{invalidate_of, broadcast_of}
 use Rattle.tlb.specs.Access.{judged}
 use Rattle.tlb.specs.Answers.{Answer}
 use Rattle.tlb.specs.Asks.{translates}
@@ -28,15 +25,10 @@ use Rattle.system.specs.Tlbi.{scope_of, what_of, tlbi_of}
 use Rattle.cpu.specs.Bare.{fresh_bare}
 use Rattle.cpu.specs.Core.{zeros, fresh_core, reg_of, set_reg, after_access}
 use Rattle.cpu.specs.Check.{missed_of}
-use Rattle.cpu.specs.Fit.{refit_of}
-use Rattle.cpu.specs.Bytes.{store_ram}
-use Rattle.cpu.specs.Ends.{store_end, store_ram_end}
-use Rattle.cpu.specs.Memory.{stepped_now, translate_of, located_now, write_of, ram_after_write}
-use Rattle.cpu.specs.Place.{verdict_of}
-use Rattle.cpu.specs.Registers.{with_regs, applied_of, after_register_write, set_level}
+use Rattle.cpu.specs.System.{refit_of, with_regs, applied_of, after_register_write, set_level, tlbi_core, sys_of, sys_ram}
+use Rattle.cpu.specs.Bytes.{store_ram, store_end, store_ram_end, verdict_of}
+use Rattle.cpu.specs.Memory.{stepped_now, translate_of, located_now, write_of, ram_after_write, translate_in, located_of}
 use Rattle.cpu.specs.Step.{run_of, ram_of, step_of, ram_after}
-use Rattle.cpu.specs.System.{tlbi_core, sys_of, sys_ram}
-use Rattle.cpu.specs.Translations.{translate_in, located_of}
 use Rattle.history.specs.History.{writes, Event, steps, receives, Settled}
 use Rattle.history.specs.Instance.{real}
 use Rattle.history.specs.StepByStep.{HoldsFrom}

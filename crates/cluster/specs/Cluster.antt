@@ -1,10 +1,11 @@
 -- Four cores as the list that the array is: what is handed on among them, and what a call makes of them.
-use Rattle.std.specs.Prelude.{if◌then◌else◌, ◌≡◌, ℕ, List, [], ◌∷◌, ◌==◌, nat_lt, true, false, Option, Some, None, Result, Ok, Err, slice_index_or, slice_set}
+use Rattle.std.specs.Prelude.{if◌then◌else◌, ◌≡◌, ℕ, List, [], ◌∷◌, ◌==◌, nat_lt, true, false, Option, Some, None, Result, Ok, Err, slice_index_or}
+use Rattle.std.specs.Prelude.{slice_set}
 use Rattle.std.specs.Borrow.{Bor}
 use Rattle.tlb.specs.Tlb.{invalidate_of}
 use Rattle.tlb.specs.declared.{Inval.Inval, work.Work.Work}
 use Rattle.cpu.specs.Core.{fresh_core}
-use Rattle.cpu.specs.Replies.{refuses}
+use Rattle.cpu.specs.Check.{refuses}
 use Rattle.cpu.specs.Step.{Stepped, step_of, ram_after}
 use Rattle.cpu.specs.Work.{step_work}
 use Rattle.cpu.specs.declared.{Core.Core, call.Call.Call, call.Reply.Reply, check.Check.Check}

@@ -4,7 +4,7 @@ use Rattle.tlb.specs.Tlb.{invalidate_of}
 use Rattle.tlb.specs.declared.{Inval.Inval, work.Work.Work}
 use Rattle.system.specs.declared.decode.Encoding.{Encoding}
 use Rattle.cpu.specs.Bare.{Bare, bare_of}
-use Rattle.cpu.specs.Replies.{refuses}
+use Rattle.cpu.specs.Check.{refuses}
 use Rattle.cpu.specs.Step.{step_of}
 use Rattle.cpu.specs.declared.{Core.Core, call.Call.Call}
 use Rattle.cpu.specs.declared.call.Call.TheVariants.{System}

@@ -21,10 +21,10 @@ abbrev pub sharing : Sharing real machine
 sharing =
     record {
       shared = shared_in;
-      hear = λ x what c. told what c;
+      hear = told;
       settle = unmarked;
-      hear-bare = λ x what c. refl;
-      hear-tlb = λ x what c. refl;
+      hear-bare = λ what c. refl;
+      hear-tlb = λ what c. refl;
       settle-bare = λ c. refl;
       settle-tlb = λ c. refl;
     }

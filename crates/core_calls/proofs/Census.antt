@@ -1,7 +1,6 @@
 -- The promise of a census, refused or done.
 use Rattle.std.specs.Prelude.{List, ℕ, zero, suc, length}
-use Rattle.std.proofs.Common.{◌≡◌, refl, sym, ap, ◌∙◌}
-use Rattle.std.proofs.Common.{arith}
+use Rattle.std.proofs.Common.{◌≡◌, refl, sym, ap, ◌∙◌, arith}
 use Rattle.word.specs.Ram.{word_at}
 use Rattle.walk.specs.Regime.{bank_of}
 use Rattle.sysreg.specs.Regs.{regime_of}
@@ -12,8 +11,7 @@ use Rattle.cpu.specs.Check.{missed_of}
 use Rattle.cpu.specs.declared.call.Call.TheVariants.{Census}
 use Rattle.cpu.specs.declared.call.Reply.TheVariants.{Refused}
 use Rattle.cpu.specs.declared.Core.{Core}
-use Rattle.cpu.specs.Step.{ends, refused_or, missed_by, run_of, step_of}
-use Rattle.cpu.specs.Inspect.{counts_of, counts_after}
+use Rattle.cpu.specs.Step.{ends, refused_or, missed_by, run_of, step_of, counts_of, counts_after}
 use Rattle.history.specs.Calls.{Lent}
 use Rattle.history.specs.Instance.{window_of, real}
 use Rattle.transparency.specs.Machine.{machine}

@@ -5,11 +5,11 @@ use Rattle.cpu.specs.Bare.{Bare, with_privilege}
 use Rattle.cpu.specs.Check.{missed_of}
 use Rattle.cpu.specs.Step.{run_of, step_of}
 use Rattle.cpu.specs.declared.Core.{Core}
-use Rattle.walk.specs.Regime.{bank_of}
+use Rattle.walk.specs.Regime.{bank_of, pa_size, untagged}
 use Rattle.sysreg.specs.Regs.{regime_of}
 use Rattle.sysreg.specs.declared.regs.Regime.{Regime}
 use Rattle.sysreg.specs.declared.regs.Regime.TheVariants.{El1, El2, El3}
-use Rattle.tlb.specs.Fresh.{fresh_answer}
+use Rattle.tlb.specs.Translate.{fresh_answer}
 use Rattle.tlb.specs.declared.{access.Kind.Kind, access.NoSuchKind.NoSuchKind}
 use Rattle.tlb.specs.declared.access.Kind.TheVariants.{Read, Write, Fetch}
 use Rattle.flip.specs.Flip.{flipped, first_in, first_flip, flip_of}
@@ -20,20 +20,16 @@ use Rattle.history.proofs.Fresh.{uncached-fresh}
 use Rattle.call_words.specs.Ops.{kind_of, view_at, flip_call}
 use Rattle.transparency.specs.Events.{plain_in}
 use Rattle.transparency.proofs.Beside.{two-cores}
-use Rattle.core_calls.specs.Flip.{Flipped, flip_number, flip_words, flip_in, bare_flip, level_of_view}
-use Rattle.core_calls.specs.Flip.{flip_after, flip_by_words, answers_as_translated, flip_is_a_step}
+use Rattle.core_calls.specs.Flip.{Flipped, flip_number, flip_words, flip_in, bare_flip, level_of_view, flip_after, flip_by_words}
+use Rattle.core_calls.specs.Flip.{answers_as_translated, flip_is_a_step}
 use Rattle.core_calls.specs.FlipRows.{FlipRows}
 use Rattle.core_calls.specs.Promise.{FlipPromise}
 use Rattle.cpu.specs.Cases.{at}
 use Rattle.word.specs.Ram.{word_at, little_endian, bytes_of}
 use Rattle.word.specs.Tables.{table}
-use Rattle.walk.specs.Size.{pa_size}
-use Rattle.walk.specs.Table.{range_of, params_of, table_next, leaf_permissions, leaf_translation, leaf_result, level_next, descaddr, lookup_next, walk_from}
-use Rattle.walk.specs.Table.{walk_range, table_walk}
-use Rattle.walk.specs.Walk.{walk_of}
-use Rattle.walk.specs.Fresh.{fresh_of}
-use Rattle.walk.specs.Fetches.{fetches_from, fetches_range, fetches_of}
-use Rattle.walk.specs.Tag.{untagged}
+use Rattle.walk.specs.Table.{range_of, params_of, table_next, leaf_permissions, leaf_translation, leaf_result, level_next, descaddr, lookup_next}
+use Rattle.walk.specs.Table.{walk_from, walk_range, table_walk}
+use Rattle.walk.specs.Walk.{walk_of, fresh_of, fetches_from, fetches_range, fetches_of}
 
 pub flip-after : flip_after
 flip-after list m va kind user = ap (λ (b : Bare). bare_flip b m va kind user) (two-cores list)

@@ -8,7 +8,7 @@ use Rattle.cpu.specs.EveryCallEnds.{outcome_of}
 use Rattle.transparency.specs.Faithful.{FaithfulCall}
 use Rattle.transparency.proofs.Faithful.{faithful-step}
 use Rattle.cpu.specs.Work.{step_work}
-use Rattle.tlb.specs.Work.{no_work}
+use Rattle.tlb.specs.Translate.{no_work}
 use Rattle.tlb.specs.declared.work.Work.{Work}
 use Rattle.call_words.specs.Replies.{code_by, value_by, reads_by, step_words}
 use Rattle.call_words.specs.declared.reply.Report.{Report}

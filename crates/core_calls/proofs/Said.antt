@@ -11,7 +11,7 @@ use Rattle.tlb.specs.declared.{access.Kind.Kind, access.NoSuchKind.NoSuchKind}
 use Rattle.call_words.specs.declared.op.DecodedCall.{DecodedCall}
 use Rattle.call_words.specs.declared.op.DecodedCall.TheVariants.{Known, Unknown}
 use Rattle.cpu.specs.Work.{step_work}
-use Rattle.tlb.specs.Work.{no_work}
+use Rattle.tlb.specs.Translate.{no_work}
 use Rattle.call_words.specs.declared.reply.Report.{Report}
 use Rattle.quick.specs.Says.{Tells, Nothing, Says, Sets, unread}
 use Rattle.core_calls.specs.Promise.{Promise, Setting}

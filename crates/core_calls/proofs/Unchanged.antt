@@ -5,9 +5,8 @@ use Rattle.cpu.specs.Says.{Said, value, lies, done, fault, faults, undefined, un
 use Rattle.cpu.specs.declared.Core.{Core}
 use Rattle.cpu.specs.declared.{call.Call.Call, call.Reply.Reply}
 use Rattle.cpu.specs.Step.{step_of, ram_after}
-use Rattle.cpu.specs.EveryCallEnds.{Outcome, number, says, outcome_of}
-use Rattle.cpu.specs.EveryCallEnds.{Ran}
-use Rattle.cpu.proofs.Refusing.{each_call_ends}
+use Rattle.cpu.specs.EveryCallEnds.{Outcome, number, says, outcome_of, Ran}
+use Rattle.cpu.proofs.EveryCallEnds.{each_call_ends}
 use Rattle.call_words.specs.Replies.{code_by, value_by, reads_by, words_by, step_words}
 
 -- a refusal, Undefined, Unimplemented, and the exceptions that stop no operation

@@ -8,17 +8,14 @@ use Rattle.cpu.specs.Step.{run_of, step_of}
 use Rattle.cpu.specs.declared.Core.{Core}
 use Rattle.word.specs.Ram.{word_at, little_endian, bytes_of}
 use Rattle.word.specs.Tables.{table}
-use Rattle.walk.specs.Size.{pa_size}
-use Rattle.walk.specs.Table.{range_of, params_of, table_next, leaf_permissions, leaf_translation, leaf_result, level_next, descaddr, lookup_next, walk_from}
-use Rattle.walk.specs.Table.{walk_range, table_walk}
-use Rattle.walk.specs.Walk.{walk_of}
-use Rattle.walk.specs.Fresh.{fresh_of}
-use Rattle.walk.specs.Tag.{untagged}
-use Rattle.walk.specs.Regime.{bank_of}
+use Rattle.walk.specs.Regime.{pa_size, untagged, bank_of}
+use Rattle.walk.specs.Table.{range_of, params_of, table_next, leaf_permissions, leaf_translation, leaf_result, level_next, descaddr, lookup_next}
+use Rattle.walk.specs.Table.{walk_from, walk_range, table_walk}
+use Rattle.walk.specs.Walk.{walk_of, fresh_of}
 use Rattle.sysreg.specs.Regs.{regime_of}
 use Rattle.sysreg.specs.declared.regs.Regime.{Regime}
 use Rattle.sysreg.specs.declared.regs.Regime.TheVariants.{El1}
-use Rattle.tlb.specs.Fresh.{fresh_answer}
+use Rattle.tlb.specs.Translate.{fresh_answer}
 use Rattle.tlb.specs.Model.{as_user}
 use Rattle.tlb.specs.declared.access.Kind.TheVariants.{Write}
 use Rattle.windows.specs.Pages.{page_answer}

@@ -3,7 +3,7 @@ use Rattle.std.specs.Prelude.{List, ℕ}
 use Rattle.cpu.specs.declared.Core.{Core}
 use Rattle.cpu.specs.Step.{step_of, ram_after}
 use Rattle.cpu.specs.Work.{step_work}
-use Rattle.tlb.specs.Work.{no_work}
+use Rattle.tlb.specs.Translate.{no_work}
 use Rattle.call_words.specs.Replies.{code_by, value_by, reads_by, step_words}
 use Rattle.call_words.specs.declared.op.DecodedCall.{DecodedCall}
 use Rattle.call_words.specs.declared.op.DecodedCall.TheVariants.{Known, Unknown}

@@ -1,8 +1,7 @@
 -- What a call promises: of the core c, and of RAM's bytes from base on.
 use Rattle.std.specs.Prelude.{◌≡◌, List, ℕ, ◌<◌, get_or}
 use Rattle.cpu.specs.declared.Core.{Core}
-use Rattle.cpu.specs.Step.{step_of}
-use Rattle.cpu.specs.Inspect.{counts_after}
+use Rattle.cpu.specs.Step.{step_of, counts_after}
 use Rattle.cpu.specs.declared.{call.Call.Call, call.Reply.Reply}
 use Rattle.cpu.specs.declared.call.Call.TheVariants.{Census}
 use Rattle.history.specs.Calls.{Lent}

@@ -25,7 +25,6 @@ fn missed_check(core: &Core, base: u64, len: u64, first: u64, pages: u64) -> u8
 
 /// How many of so many 4 KiB pages, from the page of `first` on, end at each status, at each permission byte, and
 /// flat: 0 and all 129 counts, or the number of the first check that it misses, and no count is written.
-#[inline(never)]
 pub fn census(
     core: &Core,
     first: u64,
@@ -71,7 +70,6 @@ fn tell(found: Result<Option<Pair>, WindowsError>, out: &mut [u64; 3]) -> u64
 /// Which two windows of a list share a physical page: 0 and, in `out`, 1 and the first two by their numbers, or three
 /// zeros where no two do; 10 and, in `out`, window, page and status of the first page that faults; or 1, 2 or 9, and no
 /// word is written.
-#[inline(never)]
 pub fn windows(core: &Core, list: &[u8], out: &mut [u64; 3], base: u64, ram: &[u8]) -> u64
     ensures { WindowsPromise list.now base ram.now core.now result out.old out.new }
 {
@@ -100,7 +98,6 @@ fn tell_bit(found: Result<Option<FlippedBit>, Check>, out: &mut [u64; 3]) -> u64
 /// regime's own view (0) or EL0's (1): 0 and, in `out`, 1, the first descriptor's address and its lowest bit, or three
 /// zeros where no bit of RAM does; 64 where kind or view names nothing, 1 or 2, and no word is written. RAM is changed
 /// while the call runs, and as it was when it returns.
-#[inline(never)]
 pub fn flip(
     core: &Core,
     va: u64,

@@ -31,7 +31,6 @@ pub fn system(
 
 /// The call that eight words name: 0, and in five words its answer and the descriptors that it read; 64 where they name
 /// none.
-#[inline(always)]
 pub fn step(core: &mut Core, op: &[u64; 8], base: u64, ram: &mut [u8], ans: &mut [u64; 5]) -> u64
     ensures { StepPromise (call_of op.now) base ram.old core.old result ans.old ans.new ram.new core.new }
 {

@@ -2,7 +2,7 @@
 use Rattle.std.proofs.Common.{ℕ, refl}
 use Rattle.exception.specs.declared.flags.Flags.{Flags}
 use Rattle.cpu.specs.Core.{after_access}
-use Rattle.cpu.specs.OpLaws.{translate, access, load, store, fetch, fetch_pa, data_pa}
+use Rattle.cpu.specs.Says.{translate, access, load, store, fetch, fetch_pa, data_pa}
 use Rattle.cpu.specs.Memory.{stepped_now, fetch_stepped_now, located_now, translate_of, translate_access_of, read_of, write_of, ram_after_write, fetch_of, fetch_pa_of, data_pa_of}
 use Rattle.cpu.specs.declared.Core.{Core}
 use Rattle.core_parts.specs.Accesses.{SameAccesses}

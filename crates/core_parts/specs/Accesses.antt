@@ -1,7 +1,7 @@
 -- What a setter does to the accesses that follow.
 use Rattle.std.specs.Prelude.{◌≡◌, ℕ, List}
-use Rattle.cpu.specs.OpLaws.{Operation, operation_core, operation_ram}
-use Rattle.cpu.specs.OpSays.{says}
+use Rattle.cpu.specs.Says.{Operation, operation_core, operation_ram}
+use Rattle.cpu.specs.Says.{says}
 use Rattle.cpu.specs.declared.Core.{Core}
 
 -- a translation, load, store or fetch answers the same on both cores, and leaves the same RAM and the same cache

@@ -2,8 +2,7 @@
 use Rattle.std.specs.Prelude.{if◌then◌else◌, ℕ, ◌^◌, ◌==◌, nat_lt, Option, Some, None, bit_and, map}
 use Rattle.word.specs.Bits.{bit0}
 use Rattle.exception.specs.declared.flags.Flags.{Flags}
-use Rattle.tlb.specs.Entry.{blank, stamped}
-use Rattle.tlb.specs.Tlb.{invalidate_of}
+use Rattle.tlb.specs.Tlb.{blank, stamped, invalidate_of}
 use Rattle.tlb.specs.declared.{entry.Entry.Entry, Inval.Inval}
 use Rattle.tlb.specs.declared.Inval.TheVariants.{All, Page, Asid}
 use Rattle.cpu.specs.Memory.{with_tlb}

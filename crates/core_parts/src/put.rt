@@ -1,9 +1,8 @@
 // What an emulator sets beside the calls: each changes its part and nothing else.
 ghost use Rattle.std.specs.Prelude.{◌≡◌, map};
 ghost use Rattle.core_parts.specs.Read.{pending_words};
-ghost use Rattle.core_parts.specs.Put.{moved, number_restamped, restamped};
-ghost use Rattle.core_parts.specs.Put.{with_pc, flags_in, with_flags, without_pending};
-ghost use Rattle.core_parts.specs.Put.{inval_named, received, number_received};
+ghost use Rattle.core_parts.specs.Put.{moved, number_restamped, restamped, with_pc, flags_in, with_flags};
+ghost use Rattle.core_parts.specs.Put.{without_pending, inval_named, received, number_received};
 
 use crate::read;
 use cpu::Core;
@@ -91,7 +90,7 @@ fn moved(entry: Entry, from: u32, to: u32) -> Entry
     }
 }
 
-#[tactic(auto, using(tlb::proofs::Lists::sweep))]
+#[tactic(auto, using(tlb::proofs::Cells::sweep))]
 fn move_entries(entries: &mut [Entry; 1024], from: u32, to: u32)
     ensures { entries.new ≡ map (moved from to) entries.old }
 {

@@ -1,6 +1,6 @@
 -- The counters by level of a core that calls made are those of the core after the list.
 use Rattle.std.proofs.Common.{ap, ◌∙◌}
-use Rattle.tlb.specs.Count.{tally_at}
+use Rattle.tlb.specs.Tlb.{tally_at}
 use Rattle.cpu.specs.declared.Core.{Core}
 use Rattle.transparency.specs.LevelCounts.{totals_of}
 use Rattle.transparency.proofs.LevelCounts.{level-hits, level-walks, sums-list}

@@ -6,9 +6,9 @@ use Rattle.cpu.specs.declared.Core.{Core}
 use Rattle.cpu.specs.declared.{call.Reply.Reply}
 use Rattle.cpu.specs.declared.call.Reply.TheVariants.{Refused, Done, Value, Faults, Fault, Stopped}
 use Rattle.cpu.specs.Step.{step_of}
-use Rattle.cpu.specs.EveryCallEnds.{Outcome, number, says, outcome_of}
-use Rattle.cpu.specs.EveryCallEnds.{Ran, is-undefined, is-unimplemented, valued, unreached, stopped, wrote-ram, Ended, is-refused, has-run}
-use Rattle.cpu.proofs.Refusing.{each_call_ends}
+use Rattle.cpu.specs.EveryCallEnds.{Outcome, number, says, outcome_of, Ran, is-undefined, is-unimplemented, valued, unreached, stopped, wrote-ram}
+use Rattle.cpu.specs.EveryCallEnds.{Ended, is-refused, has-run}
+use Rattle.cpu.proofs.EveryCallEnds.{each_call_ends}
 use Rattle.history.specs.Instance.{window_of}
 use Rattle.transparency.specs.Reads.{reads_on}
 use Rattle.transparency.proofs.CallReads.{call-reads}

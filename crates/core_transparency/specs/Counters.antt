@@ -1,7 +1,7 @@
 -- The counters by level of a core: after reset and any list of calls each holds the number of translations made at its level that an entry
 -- answered, or that were walked; and their sums are the Rust's two counters.
 use Rattle.std.specs.Prelude.{◌≡◌, List, ℕ, ◌%◌, ◌^◌, ◌<◌}
-use Rattle.tlb.specs.Count.{tally_at}
+use Rattle.tlb.specs.Tlb.{tally_at}
 use Rattle.history.specs.Calls.{Lent}
 use Rattle.history.specs.Instance.{real}
 use Rattle.history.specs.Tallies.{by_line, by_walk, how_many, at, rust_after}

@@ -3,3 +3,4 @@ pub mod Run
 pub mod Counters
 pub mod Reads
 pub mod Whole
+pub mod Forms

@@ -4,9 +4,8 @@ use Rattle.std.specs.Prelude.{◌≡◌, refl, true, List, [], ◌∷◌, ◌++�
 use Rattle.std.proofs.Common.{sym, ap, ◌∙◌}
 use Rattle.cpu.specs.Core.{fresh_core}
 use Rattle.cpu.specs.declared.Core.{Core}
-use Rattle.cpu.specs.Step.{step_of}
-use Rattle.cpu.specs.Inspect.{looks}
-use Rattle.cpu.proofs.Looking.{looking-core}
+use Rattle.cpu.specs.Step.{step_of, looks}
+use Rattle.cpu.proofs.EveryCallEnds.{looking-core}
 use Rattle.cpu.specs.declared.call.Call.{Call}
 use Rattle.cpu.specs.declared.call.Call.TheVariants.{Census}
 use Rattle.history.specs.Calls.{Lent, run}

@@ -5,6 +5,7 @@ ghost use Rattle.core_transparency.specs.OnCore.{faithful_on_core, faithful_step
 ghost use Rattle.core_transparency.specs.OnCore.{windows_on_core, flip_on_core};
 ghost use Rattle.core_transparency.specs.Counters.{hits_on_core, walks_on_core, sums_on_core};
 ghost use Rattle.core_transparency.specs.Reads.{reads_on_core, step_reads_on_core};
+ghost use Rattle.core_transparency.specs.Forms.{forms_of_at};
 ghost use Rattle.core_transparency.specs.Whole.{call_keeps_whole, made_is_whole, made_is_saved};
 
 /// Such a core is the core after the list. Rules out a call that promises one core and leaves another.
@@ -48,4 +49,11 @@ pub fn whole_core()
     ensures call { call_keeps_whole }
     ensures list { made_is_whole }
     ensures saved { made_is_saved }
+{}
+
+/// An AT asks for the regime, the view and the right that its name says, each part of its form by itself: the rows of
+/// `levels_of_encodings` (system) name it by one word. Rules out an AT for a write that asks for a read's right, in code
+/// and definition alike.
+pub fn forms_of_translations()
+    ensures form { forms_of_at }
 {}

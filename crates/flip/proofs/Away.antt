@@ -8,12 +8,12 @@ use Rattle.fault.specs.First.{first}
 use Rattle.sysreg.specs.declared.regs.Regime.{Regime}
 use Rattle.walk.specs.Walk.{walked_of}
 use Rattle.walk.specs.Descriptor.{valid, table_or_page}
-use Rattle.walk.specs.Table.{status_of, Result, mapped, faults, firstblocklevel, Lookup, Next, deeper, ends, descaddr}
-use Rattle.walk.specs.Table.{table_next, leaf_result, level_next, lookup_next, walk_from, table_walk}
+use Rattle.walk.specs.Table.{status_of, Result, mapped, faults, firstblocklevel, Lookup, Next, deeper, ends, descaddr, table_next, leaf_result}
+use Rattle.walk.specs.Table.{level_next, lookup_next, walk_from, table_walk}
 use Rattle.walk.specs.Order.{NoLeafAt, params_at, Reached}
 use Rattle.walk.specs.declared.{regime.Bank.Bank, level.Params.Params}
 use Rattle.walk.proofs.Order.{stage}
-use Rattle.tlb.specs.Fresh.{walk_answer}
+use Rattle.tlb.specs.Translate.{walk_answer}
 use Rattle.tlb.specs.Answers.{Answer}
 use Rattle.flip.specs.Question.{same_answer}
 use Rattle.flip.specs.FirstDescriptor.{has_blocks}

@@ -5,13 +5,13 @@ use borrow.Author.Count.{below_none, below_more}
 use Rattle.std.specs.Option.{option_or}
 use Rattle.word.specs.Ram.{within, word_at}
 use Rattle.walk.specs.Answers.{Visited}
-use Rattle.walk.specs.Fetches.{fetches_of}
+use Rattle.walk.specs.Walk.{fetches_of}
 use Rattle.walk.specs.Order.{params_at}
 use Rattle.walk.specs.Regime.{stage1_on}
-use Rattle.walk.specs.Tag.{untagged}
-use Rattle.walk.specs.Visits.{visit_of, seen_as}
+use Rattle.walk.specs.Regime.{untagged}
+use Rattle.walk.specs.State.{visit_of, seen_as}
 use Rattle.walk.specs.declared.table.Visit.{Visit}
-use Rattle.walk.proofs.VisitLaws.{visit-some, visit-none, visits-end}
+use Rattle.walk.proofs.Order.{visit-some, visit-none, visits-end}
 use Rattle.tlb.specs.Answers.{Answer}
 use Rattle.flip.specs.Question.{answer_on, same_answer}
 use Rattle.flip.specs.Flip.{flipped, changes, number_of_bit, find_map, first_in, first_flip}

@@ -7,19 +7,17 @@ use Prim.Native.Nat.{ℕ, zero, suc, ◌+◌, ◌-◌, ◌*◌, ◌<◌, ◌≤�
 use Rattle.word.specs.Places.{bits}
 use Rattle.word.specs.Ram.{within, word_at, little_endian}
 use Rattle.sysreg.specs.declared.regs.Regime.{Regime}
-use Rattle.walk.specs.Fetches.{after_next, fetches_from, fetches_range, fetches_of}
-use Rattle.walk.specs.Fresh.{fresh_of}
+use Rattle.walk.specs.Walk.{after_next, fetches_from, fetches_range, fetches_of, fresh_of, walk_of}
 use Rattle.walk.specs.Regime.{stage1_on}
 use Rattle.walk.specs.Descriptor.{valid, table_or_page}
 use Rattle.walk.specs.Table.{in_range, beyond, Lookup, startlevel, first_lookup, range_of, lookup_next}
-use Rattle.walk.specs.Walk.{walk_of}
 use Rattle.walk.specs.Order.{params_at, Reached, entry}
 use Rattle.walk.specs.declared.{regime.Bank.Bank, range.Range.Range, level.Params.Params}
 use Rattle.walk.proofs.SizeLaws.{start-level}
 use Rattle.walk.proofs.Order.{Stage, stage, invalid-next, descriptor-invalid, leaf-not-allowed}
 use Rattle.tlb.specs.Model.{need}
 use Rattle.tlb.specs.declared.access.Kind.{Kind}
-use Rattle.tlb.specs.Fresh.{walk_answer, fresh_answer}
+use Rattle.tlb.specs.Translate.{walk_answer, fresh_answer}
 use Rattle.flip.specs.Question.{answer_on}
 use Rattle.flip.specs.Flip.{flipped, number_of_bit, changes, descriptors, first_in, first_flip}
 use Rattle.flip.specs.FirstDescriptor.{address_of, first_table, descriptor_in, has_blocks, EachFirst}

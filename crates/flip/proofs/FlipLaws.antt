@@ -5,8 +5,7 @@ use Rattle.std.proofs.lemmas.Bool.{lt-ltb}
 use Rattle.std.proofs.lemmas.Nat.{pow-add, shr-shr}
 use Rattle.word.specs.Bits.{bit_on}
 use Rattle.word.specs.Ram.{within, word_at, little_endian}
-use Rattle.word.proofs.BitLaws.{cut_field, cut-cut}
-use Rattle.word.proofs.RamLaws.{byte_of}
+use Rattle.word.proofs.RamLaws.{cut_field, cut-cut, byte_of}
 use Rattle.flip.specs.Flip.{flipped, with_bit, number_of_bit}
 use Rattle.flip.specs.Bits.{ram_bit, IsBytes, EachWord, IsNone}
 use Rattle.flip.specs.declared.FlippedBit.{FlippedBit}

@@ -4,9 +4,8 @@ use Rattle.std.proofs.Common.{inl, inr, sym, ap, ◌∙◌, arith}
 use Rattle.word.specs.Tables.{table}
 use Rattle.word.specs.Ram.{within, word_at}
 use Rattle.word.proofs.RamLaws.{within_low, within-high}
-use Rattle.walk.specs.Regime.{stage1_on}
-use Rattle.walk.specs.Tag.{untagged}
-use Rattle.walk.specs.Fetches.{fetches_of}
+use Rattle.walk.specs.Regime.{stage1_on, untagged}
+use Rattle.walk.specs.Walk.{fetches_of}
 use Rattle.tlb.specs.Answers.{Answer}
 use Rattle.flip.specs.Question.{answer_on, same_answer}
 use Rattle.flip.specs.Flip.{changes, number_of_bit, bits_of, find_map, first_in, first_flip}

@@ -8,14 +8,11 @@ use Rattle.std.proofs.Math.Bool.{true, false}
 use Prim.Native.Nat.{ℕ, ◌+◌, ◌-◌, ◌*◌, ◌/◌, ◌<◌, ◌≤◌}
 use mathlib.Core.List.{Memᴰ}
 use Rattle.word.specs.Ram.{within, word_at}
-use Rattle.walk.specs.Regime.{stage1_on}
-use Rattle.walk.specs.Tag.{untagged}
-use Rattle.walk.specs.Walk.{walk_of}
-use Rattle.walk.specs.Fresh.{fresh_of}
-use Rattle.walk.specs.Fetches.{fetches_of}
-use Rattle.walk.proofs.FetchLaws.{bytes-agree}
+use Rattle.walk.specs.Regime.{stage1_on, untagged}
+use Rattle.walk.specs.Walk.{walk_of, fresh_of, fetches_of}
+use Rattle.walk.proofs.Loop.{bytes-agree}
 use Rattle.tlb.specs.Answers.{Answer}
-use Rattle.tlb.specs.Fresh.{fresh_answer}
+use Rattle.tlb.specs.Translate.{fresh_answer}
 use Rattle.flip.specs.Question.{answer_on, same_answer}
 use Rattle.flip.specs.Flip.{flipped, number_of_bit, find_map, changes, descriptors, first_in, first_flip}
 use Rattle.flip.specs.Laws.{IsOutside}

@@ -4,14 +4,11 @@ use Rattle.fault.specs.First.{first}
 use Rattle.word.specs.Ram.{word_at, little_endian, bytes_of}
 use Rattle.word.specs.Tables.{table}
 use Rattle.sysreg.specs.declared.regs.Control.{Control}
-use Rattle.walk.specs.Tag.{untagged}
-use Rattle.walk.specs.Size.{pa_size}
-use Rattle.walk.specs.Table.{range_of, params_of, table_next, leaf_permissions, leaf_translation, leaf_result, level_next, descaddr, lookup_next, walk_from}
-use Rattle.walk.specs.Table.{walk_range, table_walk}
-use Rattle.walk.specs.Walk.{walk_of}
-use Rattle.walk.specs.Fresh.{fresh_of}
-use Rattle.walk.specs.Fetches.{fetches_from, fetches_range, fetches_of}
-use Rattle.tlb.specs.Fresh.{fresh_answer}
+use Rattle.walk.specs.Regime.{untagged, pa_size}
+use Rattle.walk.specs.Table.{range_of, params_of, table_next, leaf_permissions, leaf_translation, leaf_result, level_next, descaddr, lookup_next}
+use Rattle.walk.specs.Table.{walk_from, walk_range, table_walk}
+use Rattle.walk.specs.Walk.{walk_of, fresh_of, fetches_from, fetches_range, fetches_of}
+use Rattle.tlb.specs.Translate.{fresh_answer}
 use Rattle.tlb.specs.declared.access.Kind.{Kind}
 use Rattle.tlb.specs.declared.access.Kind.TheVariants.{Read, Write, Fetch}
 use Rattle.cpu.specs.declared.check.Check.{Check}

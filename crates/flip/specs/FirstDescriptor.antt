@@ -1,8 +1,7 @@
 -- The first descriptor of a walk, by which alone what is found can be told: where it lies, and what its level allows.
 use Rattle.std.specs.Prelude.{if◌then◌else◌, ◌≡◌, ℕ, ◌&&◌, Bool, List, nat_le, nat_lt, Option, Some, None}
 use Rattle.word.specs.Ram.{word_at}
-use Rattle.walk.specs.Regime.{stage1_on}
-use Rattle.walk.specs.Tag.{untagged}
+use Rattle.walk.specs.Regime.{stage1_on, untagged}
 use Rattle.walk.specs.Table.{firstblocklevel, entered, Lookup, first_lookup, range_of, descaddr}
 use Rattle.walk.specs.Order.{params_at}
 use Rattle.flip.specs.Flip.{first_flip}

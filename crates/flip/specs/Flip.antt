@@ -1,13 +1,12 @@
 -- A bit of RAM that is flipped, and the first whose flip changes an answer.
-use Rattle.std.specs.Prelude.{if◌then◌else◌, ℕ, ◌+◌, ◌-◌, ◌*◌, ◌/◌, ◌%◌, ◌^◌, Bool, not, ◌&&◌, List, [], ◌∷◌, length, nat_lt, bit_xor, slice_index, slice_set}
-use Rattle.std.specs.Prelude.{Option, None, Result, Ok, Err, find}
+use Rattle.std.specs.Prelude.{if◌then◌else◌, ℕ, ◌+◌, ◌-◌, ◌*◌, ◌/◌, ◌%◌, ◌^◌, Bool, not, ◌&&◌, List, [], ◌∷◌, length, nat_lt, bit_xor, slice_index}
+use Rattle.std.specs.Prelude.{slice_set, Option, None, Result, Ok, Err, find}
 use Rattle.std.specs.Option.{option_or}
 use Rattle.word.specs.Ram.{within, word_at}
 use Rattle.word.specs.Tables.{table}
 use Rattle.sysreg.specs.declared.regs.Control.{Control}
-use Rattle.walk.specs.Regime.{stage1_on}
-use Rattle.walk.specs.Tag.{untagged}
-use Rattle.walk.specs.Fetches.{fetches_of}
+use Rattle.walk.specs.Regime.{stage1_on, untagged}
+use Rattle.walk.specs.Walk.{fetches_of}
 use Rattle.tlb.specs.declared.access.Kind.{Kind}
 use Rattle.cpu.specs.Check.{passes}
 use Rattle.cpu.specs.declared.check.Check.{Check}

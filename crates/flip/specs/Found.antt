@@ -2,9 +2,8 @@
 -- contract of `theorems::found_bits`.
 use Rattle.std.specs.Prelude.{◌≡◌, ℕ, ◌+◌, ◌-◌, ◌*◌, ◌<◌, ◌≤◌, ◌⊎◌, true, List, length, slice_get, Some}
 use Rattle.word.specs.Ram.{word_at}
-use Rattle.walk.specs.Regime.{stage1_on}
-use Rattle.walk.specs.Tag.{untagged}
-use Rattle.walk.specs.Fetches.{fetches_of}
+use Rattle.walk.specs.Regime.{stage1_on, untagged}
+use Rattle.walk.specs.Walk.{fetches_of}
 use Rattle.tlb.specs.Answers.{Answer}
 use Rattle.flip.specs.Question.{answer_on}
 use Rattle.flip.specs.Flip.{flipped}

@@ -6,7 +6,7 @@ use Rattle.sysreg.specs.declared.regs.{Regime.Regime, Control.Control}
 use Rattle.sysreg.specs.declared.regs.Regime.TheVariants.{El1, El2, El3}
 use Rattle.walk.specs.Regime.{bank_of}
 use Rattle.tlb.specs.Answers.{Answer}
-use Rattle.tlb.specs.Fresh.{fresh_answer}
+use Rattle.tlb.specs.Translate.{fresh_answer}
 use Rattle.tlb.specs.declared.access.Kind.{Kind}
 use Rattle.flip.specs.declared.Question.{Question}
 

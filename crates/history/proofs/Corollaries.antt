@@ -7,15 +7,15 @@ use Rattle.std.proofs.Math.Bool.{false}
 use mathlib.Core.List.{List, [], ◌∷◌, ◌++◌, append-nil, append_assoc}
 use Rattle.walk.specs.declared.{level.Leaf.Leaf}
 use Rattle.sysreg.specs.declared.regs.Regime.{Regime}
-use Rattle.tlb.specs.Lists.{Each, more}
+use Rattle.tlb.specs.Live.{Each, more}
 use Rattle.tlb.specs.Tlb.{fresh}
 use Rattle.tlb.specs.Asks.{Ask, kind_of, address_of, Given, onward}
 use Rattle.tlb.specs.declared.Tlb.{Tlb}
 use Rattle.tlb.specs.Answers.{Answer}
 use Rattle.history.proofs.Lists.{each_left, each_right, each-head, plain-append, tlb-append}
 use Rattle.history.specs.World.{World, Laws, covers, Plain, uncached}
-use Rattle.history.specs.History.{Effect, nothing, Step, Event, steps, receives, after, plain_run, drops, drops_run, answer_of}
-use Rattle.history.specs.History.{tlb_ask, answers, tlb_run, Settled, SettledFor, FaithfulAnswer}
+use Rattle.history.specs.History.{Effect, nothing, Step, Event, steps, receives, after, plain_run, drops, drops_run, answer_of, tlb_ask, answers}
+use Rattle.history.specs.History.{tlb_run, Settled, SettledFor, FaithfulAnswer}
 use Rattle.history.proofs.Theorem.{every_history_faithful}
 use Rattle.history.specs.Invisible.{plain_answers, answers_run, plain_answers_run, Tidy, Invisible}
 

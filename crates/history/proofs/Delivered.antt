@@ -6,16 +6,16 @@ use Rattle.walk.specs.Answers.{Walked}
 use Rattle.tlb.specs.Access.{flat_answer}
 use Rattle.tlb.specs.Answers.{Answer, Outcome}
 use Rattle.tlb.specs.Asks.{Ask, translates, fetches, Given}
-use Rattle.tlb.specs.Tlb.{invalidate_of, flush_of, retag_of, drop_page_of, drop_asid_of, get_of, put_of, broadcast_of}
-use Rattle.tlb.specs.Maintenance.{invalidated_of, reshaped_of, retagged_of}
+use Rattle.tlb.specs.Tlb.{invalidate_of, flush_of, retag_of, drop_page_of, drop_asid_of, get_of, put_of, broadcast_of, invalidated_of, reshaped_of}
+use Rattle.tlb.specs.Tlb.{retagged_of}
 use Rattle.tlb.specs.Model.{Access, as_fetch}
 use Rattle.tlb.specs.Translate.{tag_in, walked_in, looked_in, miss_in, hint_left, tried_in, fetch_left, fetch_tried}
 use Rattle.tlb.specs.declared.{access.Kind.Kind, access.Privilege.Privilege, entry.Entry.Entry, Inval.Inval, Tlb.Tlb}
 use Rattle.tlb.specs.declared.access.Kind.TheVariants.{Fetch}
 use Rattle.tlb.specs.declared.Inval.TheVariants.{All, Page, Asid}
 use Rattle.history.specs.World.{World, Plain, access_of}
-use Rattle.history.specs.History.{Effect, Event, steps, receives, after_event, plain_run}
-use Rattle.history.specs.History.{answer_of, answers, tlb_ask, tlb_asks, tlb_after, tlb_event, tlb_run}
+use Rattle.history.specs.History.{Effect, Event, steps, receives, after_event, plain_run, answer_of, answers, tlb_ask, tlb_asks, tlb_after, tlb_event}
+use Rattle.history.specs.History.{tlb_run}
 use Rattle.history.specs.Invisible.{answers_run, plain_answers_run}
 use Rattle.history.specs.Delivered.{unpending, handed_on, delivered, all_delivered}
 

@@ -1,15 +1,15 @@
 -- Faithfulness for lists of calls, proved from a bridge.
 use Rattle.std.proofs.Common.{arith, sym, ap, ap₂, subst, ◌∙◌}
 use Rattle.std.specs.Prelude.{◌≡◌, refl, List, [], ◌∷◌, ◌++◌, ◌≤◌}
-use Rattle.tlb.specs.Lists.{Each}
+use Rattle.tlb.specs.Live.{Each}
 use Rattle.tlb.specs.Tlb.{fresh}
 use Rattle.tlb.specs.Asks.{kind_of, address_of, Given}
 use Rattle.history.specs.World.{World, Laws, Plain, regime_now, page_now, uncached}
 use Rattle.history.proofs.Lists.{plain-append, tlb-append}
 use Rattle.history.specs.History.{Step, Event, plain_run, answers, tlb_run, Settled, FaithfulAnswer}
 use Rattle.history.proofs.Theorem.{every_history_faithful}
-use Rattle.history.specs.Calls.{Machine, Lent, Fed, run, lent_of, bare_run, events_fed, events_run, ShownIn, Shown, shown, plain_of, events_of, Bridge}
-use Rattle.history.specs.Calls.{plain_after, EveryCallFaithful}
+use Rattle.history.specs.Calls.{Machine, Lent, Fed, run, lent_of, bare_run, events_fed, events_run, ShownIn, Shown, shown, plain_of, events_of}
+use Rattle.history.specs.Calls.{Bridge, plain_after, EveryCallFaithful}
 
 module _ (w : World) (M : Machine w) where
   -- every list of calls is shown by its run

@@ -1,7 +1,7 @@
 -- After every history each answer comes from where Origin.antt says, and is judged as Judgement.antt says.
 use Rattle.std.specs.Prelude.{List}
 use Rattle.std.proofs.Common.{subst, arith}
-use Rattle.tlb.specs.Lists.{Each, done, more}
+use Rattle.tlb.specs.Live.{Each, done, more}
 use Rattle.history.specs.Instance.{real, fresh_plain}
 use Rattle.history.proofs.Instance.{real-laws, fresh-asid}
 use Rattle.history.proofs.Origins.{origin}

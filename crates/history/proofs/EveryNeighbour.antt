@@ -4,8 +4,8 @@ use Rattle.std.proofs.Common.{arith}
 use mathlib.Core.List.{List, Memᴰ}
 use Rattle.word.specs.Ram.{word_at}
 use Rattle.walk.specs.Regime.{bank_of}
-use Rattle.walk.specs.Fetches.{fetches_of}
-use Rattle.walk.proofs.FetchLaws.{bytes-agree}
+use Rattle.walk.specs.Walk.{fetches_of}
+use Rattle.walk.proofs.Loop.{bytes-agree}
 use Rattle.tlb.specs.Tlb.{fresh}
 use Rattle.tlb.specs.Asks.{Ask, address_of}
 use Rattle.history.specs.World.{World, Laws, Plain, regime_now, untag_now}

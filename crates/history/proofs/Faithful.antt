@@ -1,13 +1,14 @@
 -- Faithfulness as a promise of one call, proved from a bridge.
 use Rattle.std.proofs.Common.{arith, sym, ap, subst, ◌∙◌}
 use Rattle.std.specs.Prelude.{◌≡◌, List, ◌∷◌, ◌++◌, ◌≤◌}
-use Rattle.tlb.specs.Lists.{Each}
+use Rattle.tlb.specs.Live.{Each}
 use Rattle.tlb.specs.Tlb.{fresh}
 use Rattle.tlb.specs.declared.Tlb.{Tlb}
 use Rattle.history.specs.World.{World, Laws}
 use Rattle.history.specs.History.{Step, Event, steps, plain_run, tlb_run}
 use Rattle.history.specs.Invisible.{Tidy, answers_run}
-use Rattle.history.specs.Calls.{Machine, Lent, Fed, run, lent_of, bare_run, events_fed, showing, plain_of, Bridge, FaithfulIn, Replies, RepliesByAnswers}
+use Rattle.history.specs.Calls.{Machine, Lent, Fed, run, lent_of, bare_run, events_fed, showing, plain_of, Bridge, FaithfulIn, Replies}
+use Rattle.history.specs.Calls.{RepliesByAnswers}
 use Rattle.history.specs.ModelRun.{StandsFor}
 use Rattle.history.proofs.Lists.{answers-split}
 use Rattle.history.proofs.ModelLaws.{run-stands, fresh-stands}

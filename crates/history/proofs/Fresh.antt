@@ -1,9 +1,9 @@
 -- The core without a cache answers by the fresh answer of the address.
 use Rattle.std.proofs.Common.{arith}
 use Rattle.std.specs.Prelude.{◌≡◌, ℕ}
-use Rattle.walk.specs.Fresh.{fresh_of}
+use Rattle.walk.specs.Walk.{fresh_of}
 use Rattle.tlb.specs.declared.access.Kind.{Kind}
-use Rattle.tlb.specs.Fresh.{end_answer, fresh_answer}
+use Rattle.tlb.specs.Translate.{end_answer, fresh_answer}
 use Rattle.history.specs.World.{Plain, need_now, uncached}
 use Rattle.history.specs.Instance.{Ram, real}
 use Rattle.history.specs.Fresh.{fresh_now}

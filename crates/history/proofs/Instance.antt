@@ -6,10 +6,9 @@ use Rattle.sysreg.specs.Shape.{asid_base, asid_of, SameShape}
 use Rattle.sysreg.proofs.ShapeLaws.{shape-agrees}
 use Rattle.sysreg.specs.declared.regs.Control.{Control}
 use Rattle.walk.specs.Regime.{bank_of, stage1_on}
-use Rattle.walk.proofs.TagLaws.{untagged-page, untagged-offset}
-use Rattle.walk.proofs.WalkBounds.{leaf-bounds}
-use Rattle.walk.specs.PageLaws.{leaf_at}
-use Rattle.walk.proofs.PageLaws.{leaf-of-page}
+use Rattle.walk.proofs.SizeLaws.{untagged-page, untagged-offset}
+use Rattle.walk.proofs.WalkBounds.{leaf-bounds, leaf-of-page}
+use Rattle.walk.specs.WalkBounds.{leaf_at}
 use Rattle.sysreg.specs.declared.regs.Regime.{Regime}
 use Rattle.history.specs.World.{Laws}
 use Rattle.history.specs.Instance.{memory_of, real}

@@ -7,17 +7,17 @@ use Rattle.walk.specs.Regime.{wxn_of, bank_of}
 use Rattle.sysreg.specs.Regs.{single_priv}
 use Rattle.walk.specs.Table.{Fault as WalkFault, status_of, Translation, Result, mapped, faults, table_walk}
 use Rattle.walk.specs.Permission.{kind_bit, first_bit}
-use Rattle.walk.proofs.PermissionLaws.{permission-bit}
+use Rattle.walk.proofs.Levels.{permission-bit}
 use Rattle.walk.specs.Walk.{leaf_of, walked_of, walk_of}
 use Rattle.walk.proofs.WalkBounds.{table-walk-sound}
 use Rattle.walk.specs.declared.{regime.Bank.Bank, level.Leaf.Leaf}
 use Rattle.sysreg.specs.declared.regs.Regime.{Regime}
-use Rattle.tlb.specs.Lists.{Each}
+use Rattle.tlb.specs.Live.{Each}
 use Rattle.tlb.specs.Model.{need}
 use Rattle.tlb.specs.Asks.{Ask, kind_of, address_of}
 use Rattle.tlb.specs.declared.{access.Kind.Kind}
 use Rattle.tlb.specs.Answers.{Answer}
-use Rattle.tlb.specs.Fresh.{leaf_answer}
+use Rattle.tlb.specs.Translate.{leaf_answer}
 use Rattle.history.specs.World.{covers, Plain, regime_now, on_now, untag_now, page_now, uncached}
 use Rattle.history.specs.History.{Event}
 use Rattle.history.specs.Instance.{Ram, memory_of, real, fresh_plain}

@@ -1,7 +1,7 @@
 -- Lists of events: what holds of each element of two lists joined, where a run over both ends, and its level.
 use Rattle.std.proofs.Common.{arith, append_assoc}
 use Rattle.std.specs.Prelude.{◌≡◌, refl, List, [], ◌∷◌, ◌++◌, ◌≤◌}
-use Rattle.tlb.specs.Lists.{Each, done, more}
+use Rattle.tlb.specs.Live.{Each, done, more}
 use Rattle.tlb.specs.declared.Tlb.{Tlb}
 use Rattle.history.specs.World.{World, Plain}
 use Rattle.history.specs.History.{Step, Event, steps, receives, after_event, plain_run, answers, tlb_event, tlb_run}

@@ -3,19 +3,18 @@ use Rattle.std.proofs.Common.{arith, rules, ap₂, ◌∙◌}
 use Rattle.std.specs.Prelude.{◌≡◌, List, [], ◌∷◌, ◌++◌, ℕ, ◌≤◌}
 use Rattle.std.proofs.Math.Path.{refl, ap}
 use Rattle.std.proofs.Math.Bool.{true, false}
-use Rattle.tlb.specs.Tlb.{fresh}
-use Rattle.tlb.specs.Maintenance.{invalidated_of, reshaped_of, retagged_of}
+use Rattle.tlb.specs.Tlb.{fresh, invalidated_of, reshaped_of, retagged_of}
 use Rattle.tlb.specs.Model.{Model, empty_model, invalidate}
 use Rattle.tlb.specs.Live.{live, WellFormed, LeafLevel, Follows}
-use Rattle.tlb.proofs.Refines.{fresh-live, fresh-sound, flush-live, flush-sound, invalidate-live, invalidate-sound, retag-live, retag-sound, broadcast-live}
-use Rattle.tlb.proofs.Refines.{broadcast-sound}
+use Rattle.tlb.proofs.Refines.{fresh-live, fresh-sound, flush-live, flush-sound, invalidate-live, invalidate-sound, retag-live, retag-sound}
+use Rattle.tlb.proofs.Refines.{broadcast-live, broadcast-sound}
 use Rattle.tlb.proofs.Translations.{translation-follows, fetch-follows}
 use Rattle.tlb.specs.Asks.{Ask, translates, fetches, Given}
 use Rattle.tlb.specs.declared.{access.Kind.Kind, Tlb.Tlb}
 use Rattle.tlb.specs.declared.access.Kind.TheVariants.{Fetch}
 use Rattle.history.specs.World.{World, Laws, Plain, regime_now, untag_now, access_of}
-use Rattle.history.specs.History.{Effect, nothing, carries, writes, sets, Event, steps, receives, after, after_event, plain_run, answer_of, tlb_ask, answers}
-use Rattle.history.specs.History.{tlb_asks, tlb_after, tlb_event, tlb_run}
+use Rattle.history.specs.History.{Effect, nothing, carries, writes, sets, Event, steps, receives, after, after_event, plain_run, answer_of, tlb_ask}
+use Rattle.history.specs.History.{answers, tlb_asks, tlb_after, tlb_event, tlb_run}
 use Rattle.history.specs.Invisible.{answers_run}
 use Rattle.history.proofs.Lists.{event-low, run-low}
 use Rattle.history.specs.ModelRun.{model_ask, model_answers, model_asks, model_flushed, model_retagged, model_after, model_event, model_run}

@@ -6,7 +6,7 @@ use mathlib.Core.List.{List, [], ◌∷◌, ◌++◌}
 use Rattle.std.proofs.lemmas.Bool.{eqb-false}
 use Rattle.walk.specs.declared.{level.Leaf.Leaf}
 use Rattle.sysreg.specs.declared.regs.Regime.{Regime}
-use Rattle.tlb.specs.Lists.{Each, done}
+use Rattle.tlb.specs.Live.{Each, done}
 use Rattle.tlb.specs.declared.Inval.{Inval}
 use Rattle.history.proofs.Lists.{each_append, each_left, each_right}
 use Rattle.history.specs.World.{World, LeavesEqual, covers, Plain, page_walk}

@@ -1,7 +1,7 @@
 -- After every history each answer comes from where Origin.antt says.
 use Rattle.std.proofs.Common.{rules, sym, ◌∙◌, inl, inr}
 use Rattle.std.specs.Prelude.{◌≡◌, refl, true, List, [], ◌∷◌, ◌⊎◌, ◌≤◌, Ok, Err}
-use Rattle.tlb.specs.Lists.{Each, done, more}
+use Rattle.tlb.specs.Live.{Each, done, more}
 use Rattle.tlb.specs.Tlb.{fresh}
 use Rattle.tlb.specs.Model.{Model}
 use Rattle.tlb.specs.Asks.{Ask, kind_of, address_of, onward}

@@ -6,21 +6,20 @@ use Rattle.std.proofs.Math.Bool.{true, false}
 use Rattle.std.proofs.Math.Logic.{inl, inr}
 use native.Mathlib.Omega.{arith}
 use borrow.Author.Tests.{eqb-true, lt-ltb, le-ltb}
-use Rattle.word.proofs.BitLaws.{both}
+use Rattle.word.proofs.RamLaws.{both}
 use Rattle.fault.specs.First.{first}
 use Rattle.walk.specs.declared.{level.Leaf.Leaf}
 use Rattle.sysreg.specs.declared.regs.Regime.{Regime}
 use Rattle.tlb.specs.Access.{flat_answer}
 use Rattle.tlb.specs.Answers.{Outcome, Answer}
-use Rattle.tlb.specs.Model.{Slot, empty, holds, Line, Known, Model, one_hit, one_walk, same_regime, folded, hint_place, Access, as_user, need, reach_of}
-use Rattle.tlb.specs.Model.{reaches, serving, line_for, address_in, judge as judgeLine, line_of_leaf, walked, looked, unhinted, known_of, noting, noted, knowing}
-use Rattle.tlb.specs.Model.{tried, keep_hint, keep_fetch, hinted, hintable, translate, fetch}
+use Rattle.tlb.specs.Model.{Slot, empty, holds, Line, Known, Model, one_hit, one_walk, same_regime, folded, hint_place, Access, as_user, need}
+use Rattle.tlb.specs.Model.{reach_of, reaches, serving, line_for, address_in, judge as judgeLine, line_of_leaf, walked, looked, unhinted, known_of}
+use Rattle.tlb.specs.Model.{noting, noted, knowing, tried, keep_hint, keep_fetch, hinted, hintable, translate, fetch}
 use Rattle.tlb.specs.declared.access.Kind.{Kind}
 use Rattle.tlb.specs.declared.access.Kind.TheVariants.{Fetch}
-use Rattle.tlb.specs.Fresh.{leaf_answer}
-use Rattle.history.specs.World.{World, Laws, LeavesEqual, page_walk, Plain, regime_now, on_now, untag_now, page_now, need_now, uncached}
-use Rattle.tlb.proofs.Misses.{flat-is}
-use Rattle.history.specs.World.{access_of}
+use Rattle.tlb.specs.Translate.{leaf_answer}
+use Rattle.history.specs.World.{World, Laws, LeavesEqual, page_walk, Plain, regime_now, on_now, untag_now, page_now, need_now, uncached, access_of}
+use Rattle.tlb.proofs.Translations.{flat-is}
 use Rattle.history.proofs.Traced.{Moment, at, Seen, Today, LineFrom, LineOk, allows, HintFrom, flat, kept, HintOk, kind_at, Traced, traced-counting}
 use Rattle.history.proofs.Traced.{traced-keep, traced-hint, traced-fetch-hint}
 use Rattle.walk.specs.Answers.{Walked}

@@ -13,9 +13,9 @@ use Rattle.history.specs.SeenFrom.{Sharing, Numbered, Part, makes, hears, neithe
 use Rattle.history.specs.SeenFrom.{shared_by, bares_of, cores_after, bares_after, seen_from, if_made, seen_replies, seen_says}
 
 module _ (w : World) (M : Machine w) (S : Sharing w M) (B : Bridge w M) (m : w.Ram) (x : M.Call) where
-  heard-bare : (v : Option Inval) (c : M.Core) → M.bare (heard w M S x v c) ≡ M.bare c
+  heard-bare : (v : Option Inval) (c : M.Core) → M.bare (heard w M S v c) ≡ M.bare c
   heard-bare None c = refl
-  heard-bare (Some v) c = S.hear-bare x v c
+  heard-bare (Some v) c = S.hear-bare v c
 
   -- of a core that has the part p
   pub bare-then : (p : Part) (c : M.Core) (v : Option Inval) → M.bare (core_then w M S p c m x v) ≡ bare_then w M S p (M.bare c) m x
@@ -39,7 +39,7 @@ module _ (w : World) (M : Machine w) (S : Sharing w M) (B : Bridge w M) (m : w.R
       ap unpending (S.settle-tlb (M.step c m x) ∙ ap unpending (B.tlb-is c m x))
       ∙ sym (run-quiet w (M.events (M.bare c) m (M.later c m x) x) (M.plain (M.bare c)) (M.tlb c))
   tlb-then hears c None = refl
-  tlb-then hears c (Some v) = ap unpending (S.hear-tlb x v c) ∙ sym (inval-quiet v (M.tlb c))
+  tlb-then hears c (Some v) = ap unpending (S.hear-tlb v c) ∙ sym (inval-quiet v (M.tlb c))
   tlb-then neither c v = refl
 
 module _ (w : World) (M : Machine w) (S : Sharing w M) (k : ℕ) where

@@ -3,11 +3,11 @@ use Rattle.std.specs.Prelude.{if◌then◌else◌, ◌≡◌, Bool, ◌&&◌, Li
 use Rattle.std.proofs.Math.Path.{refl}
 use Rattle.std.proofs.Common.{◌∙◌, arith}
 use Rattle.tlb.specs.Asks.{Ask, onward}
-use Rattle.tlb.specs.Lists.{Each, done, more}
-use Rattle.tlb.proofs.Lists.{each-imp}
+use Rattle.tlb.specs.Live.{Each, done, more}
+use Rattle.tlb.proofs.Cells.{each-imp}
 use Rattle.tlb.specs.Model.{Counters, Model, invalidate, retag, broadcast}
-use Rattle.tlb.specs.Counting.{How, how_counted, sums}
-use Rattle.tlb.proofs.Counting.{translate-counts, fetch-counts, counted-others}
+use Rattle.tlb.specs.Runs.{How, how_counted, sums}
+use Rattle.tlb.proofs.Translations.{translate-counts, fetch-counts, counted-others}
 use Rattle.tlb.specs.declared.Inval.{Inval}
 use Rattle.tlb.specs.Answers.{Answer}
 use Rattle.history.specs.World.{World, Plain}

@@ -6,10 +6,9 @@ use Rattle.std.proofs.Math.Bool.{true, false}
 use borrow.Author.Tests.{eqb-true}
 use Rattle.walk.specs.declared.{level.Leaf.Leaf}
 use Rattle.sysreg.specs.declared.regs.Regime.{Regime}
-use Rattle.tlb.specs.Lists.{Each, done, more}
+use Rattle.tlb.specs.Live.{Each, done, more, WellFormed}
 use Rattle.tlb.specs.Tlb.{fresh}
 use Rattle.tlb.specs.Model.{Model, empty_model, invalidate, retag, broadcast}
-use Rattle.tlb.specs.Live.{WellFormed}
 use Rattle.tlb.specs.Asks.{Ask, translates, fetches, kind_of, address_of, onward}
 use Rattle.tlb.specs.declared.access.Kind.TheVariants.{Fetch}
 use Rattle.tlb.specs.declared.Inval.{Inval}
@@ -17,8 +16,8 @@ use Rattle.tlb.specs.Answers.{Answer}
 use Rattle.tlb.specs.declared.Inval.TheVariants.{All}
 use Rattle.history.proofs.Lists.{each_append}
 use Rattle.history.specs.World.{World, Laws, LeavesEqual, covers, Plain, page_walk}
-use Rattle.history.specs.History.{Effect, nothing, carries, writes, sets, Step, Event, steps, receives, after, after_event, plain_run, drops, drops_event}
-use Rattle.history.specs.History.{drops_run, tlb_run, Settled, FaithfulAnswer, EveryHistoryFaithful}
+use Rattle.history.specs.History.{Effect, nothing, carries, writes, sets, Step, Event, steps, receives, after, after_event, plain_run, drops}
+use Rattle.history.specs.History.{drops_event, drops_run, tlb_run, Settled, FaithfulAnswer, EveryHistoryFaithful}
 use Rattle.history.specs.ModelRun.{model_ask, model_answers, model_asks, model_flushed, model_retagged, model_after, model_event, model_run}
 use Rattle.history.proofs.ModelLaws.{run-stands, fresh-stands, history-model, history-answers}
 use Rattle.history.proofs.Traced.{Moment, at, drop, Walks, Seen, Traced, traced-empty, traced-at, traced-invalidate, traced-retag, traced-kept}

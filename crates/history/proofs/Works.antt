@@ -3,7 +3,7 @@ use Rattle.std.specs.Prelude.{◌≡◌, List, [], ◌∷◌, ◌++◌, ℕ, ◌
 use Rattle.std.proofs.Common.{arith}
 use Rattle.tlb.specs.Answers.{Answer}
 use Rattle.tlb.specs.Asks.{Ask, translates, fetches, address_of, onward, work_of, works}
-use Rattle.tlb.specs.Counting.{How, how_work}
+use Rattle.tlb.specs.Runs.{How, how_work}
 use Rattle.tlb.specs.Live.{live, WellFormed}
 use Rattle.tlb.specs.Model.{Model}
 use Rattle.tlb.specs.declared.access.Kind.TheVariants.{Fetch}

@@ -1,6 +1,6 @@
 -- Faithfulness for lists of calls: what a core is to the theory, and the statement.
 use Rattle.std.specs.Prelude.{◌≡◌, List, [], ◌∷◌, ◌++◌}
-use Rattle.tlb.specs.Lists.{Each}
+use Rattle.tlb.specs.Live.{Each}
 use Rattle.tlb.specs.Asks.{kind_of, address_of, Given}
 use Rattle.tlb.specs.declared.Tlb.{Tlb}
 use Rattle.history.specs.World.{World, Plain, regime_now, page_now, uncached}

@@ -2,12 +2,11 @@
 -- left the core.
 use Rattle.std.specs.Prelude.{◌≡◌, List, ◌∷◌, ◌++◌}
 use Rattle.tlb.specs.Asks.{Given}
-use Rattle.tlb.specs.Lists.{Each}
+use Rattle.tlb.specs.Live.{Each}
 use Rattle.history.specs.World.{World, Plain}
 use Rattle.history.specs.History.{Step, Event, steps, after_event, plain_run, tlb_event, tlb_run, answers}
 use Rattle.history.specs.Invisible.{Tidy, answers_run}
-use Rattle.history.specs.Calls.{Machine, Lent, Fed, run, lent_of, bare_run, events_run, Shown, shown, plain_of, events_of}
-use Rattle.history.specs.Calls.{FaithfulIn, Replies}
+use Rattle.history.specs.Calls.{Machine, Lent, Fed, run, lent_of, bare_run, events_run, Shown, shown, plain_of, events_of, FaithfulIn, Replies}
 
 -- what a call replies, made from the state without a cache, RAM at its steps and the answers to its translations
 abbrev pub Says : (w : World) (M : Machine w) → Replies w M → Type 0

@@ -1,8 +1,8 @@
--- The core without a cache answers by the fresh answer of the address (walk/specs/Fresh.antt), which AT and the page
+-- The core without a cache answers by the fresh answer of the address (walk/specs/Walk.antt), which AT and the page
 -- census go by too.
 use Rattle.std.specs.Prelude.{ℕ}
 use Rattle.walk.specs.Regime.{bank_of}
-use Rattle.walk.specs.Fresh.{fresh_of}
+use Rattle.walk.specs.Walk.{fresh_of}
 use Rattle.walk.specs.declared.{fresh.Fresh.Fresh}
 use Rattle.history.specs.World.{Plain, regime_now}
 use Rattle.history.specs.Instance.{Ram, memory_of, real}

@@ -3,11 +3,10 @@
 use Rattle.std.specs.Prelude.{if◌then◌else◌, ◌≡◌, Bool, true, false, List, [], ◌∷◌, ◌++◌, ◌⊎◌, ℕ, ◌≤◌, Ok}
 use Rattle.walk.specs.declared.{level.Leaf.Leaf}
 use Rattle.sysreg.specs.declared.regs.Regime.{Regime}
-use Rattle.tlb.specs.Lists.{Each}
-use Rattle.tlb.specs.Tlb.{fresh, invalidate_of}
+use Rattle.tlb.specs.Live.{Each}
+use Rattle.tlb.specs.Tlb.{fresh, invalidate_of, invalidated_of, refit_by}
 use Rattle.tlb.specs.Asks as Asks
 use Rattle.tlb.specs.Asks.{Ask, kind_of, address_of, Given}
-use Rattle.tlb.specs.Maintenance.{invalidated_of, refit_by}
 use Rattle.tlb.specs.declared.{access.Privilege.Privilege, Inval.Inval, Tlb.Tlb}
 use Rattle.tlb.specs.Answers.{Answer}
 use Rattle.tlb.specs.declared.Inval.TheVariants.{All}

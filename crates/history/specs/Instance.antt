@@ -3,10 +3,8 @@ use Rattle.std.specs.Prelude.{false, length}
 use Rattle.sysreg.specs.Regs.{fresh_control}
 use Rattle.sysreg.specs.Shape.{same_shape, asid_of}
 use Rattle.sysreg.specs.declared.regs.Control.{Control}
-use Rattle.walk.specs.Fetches.{fetches_of}
-use Rattle.walk.specs.Regime.{bank_of, stage1_on}
-use Rattle.walk.specs.Tag.{untagged}
-use Rattle.walk.specs.Walk.{walk_of}
+use Rattle.walk.specs.Walk.{fetches_of, walk_of}
+use Rattle.walk.specs.Regime.{bank_of, stage1_on, untagged}
 pub use Rattle.history.specs.Window.{Ram, window_of, memory_of}
 use Rattle.history.specs.World.{World, Plain}
 

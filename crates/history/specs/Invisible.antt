@@ -1,6 +1,6 @@
 -- The corollary to read first: where no table is changed without the matching TLBI, the cache is invisible.
 use Rattle.std.specs.Prelude.{◌≡◌, List, [], ◌∷◌, ◌++◌}
-use Rattle.tlb.specs.Lists.{Each}
+use Rattle.tlb.specs.Live.{Each}
 use Rattle.tlb.specs.Tlb.{fresh}
 use Rattle.tlb.specs.Asks.{Ask, kind_of, address_of, Given, onward}
 use Rattle.tlb.specs.declared.Tlb.{Tlb}

@@ -11,7 +11,7 @@ use Rattle.walk.specs.declared.{regime.Bank.Bank}
 use Rattle.sysreg.specs.declared.regs.Regime.{Regime}
 use Rattle.sysreg.specs.declared.regs.Control.{Control}
 use Rattle.tlb.specs.Access.{flat_answer}
-use Rattle.tlb.specs.Lists.{Each}
+use Rattle.tlb.specs.Live.{Each}
 use Rattle.tlb.specs.Model.{as_user}
 use Rattle.tlb.specs.Asks.{Ask, kind_of, address_of}
 use Rattle.tlb.specs.declared.{access.Kind.Kind, Inval.Inval}

@@ -4,7 +4,7 @@ use Rattle.std.specs.Prelude.{if◌then◌else◌, ◌≡◌, true, false, ℕ, 
 use mathlib.Core.List.{List, [], ◌∷◌, ◌++◌}
 use Rattle.walk.specs.declared.{level.Leaf.Leaf}
 use Rattle.sysreg.specs.declared.regs.Regime.{Regime}
-use Rattle.tlb.specs.Lists.{Each}
+use Rattle.tlb.specs.Live.{Each}
 use Rattle.tlb.specs.Asks.{Ask, address_of}
 use Rattle.tlb.specs.declared.Inval.{Inval}
 use Rattle.history.specs.World.{World, LeavesEqual, covers, Plain, page_walk, regime_now, page_now}

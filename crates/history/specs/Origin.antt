@@ -4,11 +4,11 @@ use Rattle.std.specs.Prelude.{◌≡◌, true, false, List, [], ◌∷◌, ◌++
 use Rattle.fault.specs.First.{first}
 use Rattle.walk.specs.declared.level.Leaf.{Leaf}
 use Rattle.tlb.specs.Access.{flat_answer}
-use Rattle.tlb.specs.Lists.{Each}
+use Rattle.tlb.specs.Live.{Each}
 use Rattle.tlb.specs.Asks.{Ask, kind_of, address_of}
 use Rattle.tlb.specs.declared.Inval.{Inval}
 use Rattle.tlb.specs.Answers.{Answer}
-use Rattle.tlb.specs.Fresh.{leaf_answer}
+use Rattle.tlb.specs.Translate.{leaf_answer}
 use Rattle.history.specs.World.{World, covers, Plain, page_walk, regime_now, on_now, untag_now, page_now, need_now}
 use Rattle.history.specs.History.{Step, Event, steps, plain_run, drops_run}
 

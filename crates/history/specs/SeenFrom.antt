@@ -15,10 +15,10 @@ use Rattle.history.specs.Delivered.{unpending, all_delivered}
 --   settle  the core whose call shared it, with its mark cleared, and no more
 pub record Sharing (w : World) (M : Machine w) : Type 1 where
   pub shared : M.Bare → w.Ram → M.Call → Option Inval
-  pub hear : M.Call → Inval → M.Core → M.Core
+  pub hear : Inval → M.Core → M.Core
   pub settle : M.Core → M.Core
-  pub hear-bare : (x : M.Call) (v : Inval) (c : M.Core) → M.bare (hear x v c) ≡ M.bare c
-  pub hear-tlb : (x : M.Call) (v : Inval) (c : M.Core) → M.tlb (hear x v c) ≡ invalidate_of (M.tlb c) v
+  pub hear-bare : (v : Inval) (c : M.Core) → M.bare (hear v c) ≡ M.bare c
+  pub hear-tlb : (v : Inval) (c : M.Core) → M.tlb (hear v c) ≡ invalidate_of (M.tlb c) v
   pub settle-bare : (c : M.Core) → M.bare (settle c) ≡ M.bare c
   pub settle-tlb : (c : M.Core) → M.tlb (settle c) ≡ unpending (M.tlb c)
 
@@ -39,9 +39,9 @@ abbrev pub part_of : ℕ → ℕ → Part
 part_of i n = if nat_lt 3 n || nat_lt 3 i then neither else if i == n then makes else hears
 
 module _ (w : World) (M : Machine w) (S : Sharing w M) where
-  abbrev pub heard : M.Call → Option Inval → M.Core → M.Core
-  heard x None c = c
-  heard x (Some v) c = S.hear x v c
+  abbrev pub heard : Option Inval → M.Core → M.Core
+  heard None c = c
+  heard (Some v) c = S.hear v c
 
   abbrev pub received : Option Inval → List (Event w)
   received None = []
@@ -51,7 +51,7 @@ module _ (w : World) (M : Machine w) (S : Sharing w M) where
   -- further steps; and the events that the core's history gets. A core's own invalidation is one, whatever it shares.
   abbrev pub core_then : Part → M.Core → w.Ram → M.Call → Option Inval → M.Core
   core_then makes c m x v = S.settle (M.step c m x)
-  core_then hears c m x v = heard x v c
+  core_then hears c m x v = heard v c
   core_then neither c m x v = c
 
   abbrev pub bare_then : Part → M.Bare → w.Ram → M.Call → M.Bare

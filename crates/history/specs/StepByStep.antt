@@ -2,7 +2,7 @@
 use Rattle.std.specs.Prelude.{◌≡◌, true, false, List, [], ◌∷◌, ◌⊎◌, ℕ, Ok}
 use Rattle.walk.specs.declared.{level.Leaf.Leaf}
 use Rattle.sysreg.specs.declared.regs.Regime.{Regime}
-use Rattle.tlb.specs.Lists.{Each}
+use Rattle.tlb.specs.Live.{Each}
 use Rattle.tlb.specs.declared.Inval.{Inval}
 use Rattle.history.specs.World.{World, LeavesEqual, covers, Plain, page_walk}
 use Rattle.history.specs.History.{Event, steps, receives, after_event, drops_run}

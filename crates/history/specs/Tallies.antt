@@ -5,8 +5,7 @@ use Rattle.std.specs.Prelude.{if◌then◌else◌, Bool, ◌&&◌, List, [], ◌
 use Rattle.std.proofs.Math.Bool.{true, false}
 use Rattle.tlb.specs.Asks.{Ask, translates, fetches, address_of, onward}
 use Rattle.tlb.specs.Model.{Model}
-use Rattle.tlb.specs.Counting.{How, hint_answered, itself, line_answered, walk_answered, how_translated, how_fetched}
-use Rattle.tlb.specs.Counting.{Totals, rust_counted}
+use Rattle.tlb.specs.Runs.{How, hint_answered, itself, line_answered, walk_answered, how_translated, how_fetched, Totals, rust_counted}
 use Rattle.tlb.specs.declared.access.Kind.TheVariants.{Fetch}
 use Rattle.history.specs.World.{World, Plain, regime_now, untag_now, access_of}
 use Rattle.history.specs.History.{Event, steps, receives, after}

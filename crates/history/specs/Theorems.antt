@@ -5,15 +5,15 @@ use mathlib.Core.List.{Memᴰ}
 use Rattle.word.specs.Ram.{word_at}
 use Rattle.fault.specs.declared.Fault.{Fault}
 use Rattle.sysreg.specs.Shape.{asid_of}
-use Rattle.walk.specs.Fetches.{fetches_of}
+use Rattle.walk.specs.Walk.{fetches_of}
 use Rattle.walk.specs.Regime.{bank_of}
 use Rattle.walk.specs.Table.{Translation, mapped, table_walk}
 use Rattle.walk.specs.declared.{level.Leaf.Leaf}
 use Rattle.sysreg.specs.declared.regs.Regime.{Regime}
 use Rattle.tlb.specs.Asks.{Ask, address_of, Given}
-use Rattle.tlb.specs.Counting.{sums}
-use Rattle.tlb.specs.Lists.{Each}
-use Rattle.tlb.specs.Fresh.{fresh_answer}
+use Rattle.tlb.specs.Runs.{sums}
+use Rattle.tlb.specs.Live.{Each}
+use Rattle.tlb.specs.Translate.{fresh_answer}
 use Rattle.tlb.specs.Model.{Model, Access, empty_model, line_of_leaf, covers as drops_line}
 use Rattle.tlb.specs.Tlb.{fresh}
 use Rattle.tlb.specs.declared.{access.Kind.Kind, Inval.Inval}

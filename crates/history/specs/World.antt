@@ -1,12 +1,12 @@
 -- What the theory of histories takes from registers and walk, and the terms of docs/SCOPE.md on it: equal walks, covering, the
 -- core without a cache. `span_bits`, `as_user` and `need` are the plain model's: tlb/specs/Model.antt; `walk_answer` is the judged fresh answer's:
--- tlb/specs/Fresh.antt.
+-- tlb/specs/Translate.antt.
 use Rattle.std.specs.Prelude.{if◌then◌else◌, ◌≡◌, Bool, true, not, ◌&&◌, ℕ, ◌*◌, ◌/◌, ◌%◌, ◌^◌, ◌≤◌, ◌==◌, Ok}
 use Rattle.sysreg.specs.Regs.{regime_of}
 use Rattle.walk.specs.declared.{level.Leaf.Leaf}
 use Rattle.sysreg.specs.declared.regs.Regime.{Regime}
 use Rattle.tlb.specs.Access.{flat_answer}
-use Rattle.tlb.specs.Fresh.{walk_answer}
+use Rattle.tlb.specs.Translate.{walk_answer}
 use Rattle.tlb.specs.Model.{Access, as_user, need, span_bits}
 use Rattle.tlb.specs.declared.{access.Kind.Kind, access.Privilege.Privilege, Inval.Inval}
 use Rattle.tlb.specs.Answers.{Answer}

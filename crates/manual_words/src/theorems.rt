@@ -1,7 +1,7 @@
 //! What holds of all words. Each function computes nothing: its contract is the theorem.
 ghost use Rattle.std.specs.Prelude.{◌≡◌, Bool, true, false, ℕ, ◌+◌, ◌<◌, ◌^◌};
-ghost use Rattle.std.specs.Prelude.{[], ◌∷◌, map, Some, None};
-ghost use Rattle.exception.specs.Syndrome.{class_of, far_written};
+ghost use Rattle.std.specs.Prelude.{[], ◌∷◌, map, is_some, Some, None};
+ghost use Rattle.exception.specs.Syndrome.{class_of, far_of};
 ghost use Rattle.exception.specs.declared.kind.Exception.{Exception};
 ghost use Rattle.exception.specs.declared.kind.{DataAbort.DataAbort, InsnAbort.InsnAbort};
 ghost use Rattle.exception.specs.declared.kind.Exception.TheVariants as Exception;
@@ -40,7 +40,7 @@ pub fn encodings_of_names()
 #[tactic(auto, using(crate::proofs::Classes::told_by_name, crate::proofs::Classes::told_far))]
 pub fn classes_of_exceptions()
     ensures class { (lower : Bool) (e : Exception) → class_at (class_of lower e) ≡ told_class lower e }
-    ensures far { (lower : Bool) (e : Exception) → far_told (told_class lower e) ≡ far_written e }
+    ensures far { (lower : Bool) (pc : ℕ) (e : Exception) → far_told (told_class lower e) ≡ is_some (far_of pc e) }
 {}
 
 /// ESR_ELx as abort entry writes it: status, WnR and immediate are read where entry puts them.

@@ -1,18 +1,17 @@
 -- A core out of its own words: nothing is lost but what no word holds.
 use Rattle.std.specs.Prelude.{if◌then◌else◌, ◌==◌, slice_index, slice_index_or}
-use Rattle.std.proofs.Common.{◌≡◌, ℕ, zero, suc, ◌+◌, ◌-◌, ◌*◌, ◌/◌, ◌%◌, ◌^◌, ◌<◌, ◌≤◌, Bool, true, false, ltb, List, [], ◌∷◌, length, Option, Some, None}
-use Rattle.std.proofs.Common.{sym, refl, ap, ◌∙◌, arith, lt-ltb, le-ltb, ltb-true, ltb-false, mod-eq_of_lt}
+use Rattle.std.proofs.Common.{◌≡◌, ℕ, zero, suc, ◌+◌, ◌-◌, ◌*◌, ◌/◌, ◌%◌, ◌^◌, ◌<◌, ◌≤◌, Bool, true, false, ltb, List, [], ◌∷◌, length, Option, Some}
+use Rattle.std.proofs.Common.{None, sym, refl, ap, ◌∙◌, arith, lt-ltb, le-ltb, ltb-true, ltb-false, mod-eq_of_lt}
 use Rattle.std.proofs.lemmas.List.{get_or_past}
 use Rattle.word.specs.Bits.{flag, bit_on, field}
 use Rattle.word.specs.Tables.{table, table_at, table-past}
-use Rattle.tlb.specs.Tlb.{hint_at, entry_at}
-use Rattle.tlb.specs.Entry.{blank}
-use Rattle.tlb.specs.Hint.{no_hint}
+use Rattle.tlb.specs.Tlb.{hint_at, entry_at, blank, no_hint}
 use Rattle.tlb.specs.declared.{count.Tally.Tally, entry.Entry.Entry, hint.FetchHint.FetchHint, Inval.Inval}
 use Rattle.tlb.specs.declared.Inval.TheVariants.{All, Page, Asid}
 use Rattle.cpu.specs.declared.Core.{Core}
 use Rattle.saved.specs.CoreOf.{word, level_in, pending_of, hint_in, entry_of, entry_in, core_on, core_by, core_of}
-use Rattle.saved.specs.WordsOf.{level_words, pending_kind, pending_value, fetch_known, fetch_or_zeros, hint_word, attributes, entry_word, word_of, words_of, held}
+use Rattle.saved.specs.WordsOf.{level_words, pending_kind, pending_value, fetch_known, fetch_or_zeros, hint_word, attributes, entry_word, word_of}
+use Rattle.saved.specs.WordsOf.{words_of, held}
 use Rattle.saved.specs.Places.{WORDS, GENERAL, LEVEL, HINTS, HINT-PA, ENTRIES, ENTRY-GENERATION, ENTRY-ATTRIBUTES, ENTRY-PA, LEVEL-HITS}
 use Rattle.saved.specs.Fits.{EntryFits, FetchFits, PendingFits, Fits}
 use Rattle.saved.proofs.Filling.{table_is}

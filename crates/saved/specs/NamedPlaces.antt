@@ -3,16 +3,14 @@ use Rattle.std.specs.Prelude.{◌≡◌, ℕ, ◌+◌, ◌-◌, ◌*◌, ◌<◌
 use Rattle.word.specs.Bits.{flag}
 use Rattle.sysreg.specs.Regs.{index_of, reg_at}
 use Rattle.sysreg.specs.declared.{regs.Regime.Regime, regs.Register.Register}
-use Rattle.sysreg.specs.declared.regs.Register.TheVariants.{Sctlr, Tcr, Ttbr0, Ttbr1, Scr, Hcr}
-use Rattle.sysreg.specs.declared.regs.Register.TheVariants.{Mair, Vbar, Elr, Spsr, Esr, Far, Vpidr, Vmpidr, Par}
-use Rattle.tlb.specs.Tlb.{hint_at, entry_at}
-use Rattle.tlb.specs.Count.{tally_at}
+use Rattle.sysreg.specs.declared.regs.Register.TheVariants.{Sctlr, Tcr, Ttbr0, Ttbr1, Scr, Hcr, Mair, Vbar, Elr, Spsr, Esr, Far, Vpidr, Vmpidr, Par}
+use Rattle.tlb.specs.Tlb.{hint_at, entry_at, tally_at}
 use Rattle.cpu.specs.Core.{reg_of}
 use Rattle.cpu.specs.declared.Core.{Core}
-use Rattle.saved.specs.Places.{SCTLR, TCR, TTBR0, TTBR1-EL1, MAIR, VBAR, ELR, SPSR, ESR, FAR, SCR-EL3, HCR-EL2, VPIDR-EL2, VMPIDR-EL2, PAR-EL1, PC, NZCV}
-use Rattle.saved.specs.Places.{DAIF, SPSEL, GENERAL, LEVEL, UNPRIVILEGED, FLUSHES, DROPS, EPOCH, LAST-PA, ABORT-PA, GENERATION, ASID}
-use Rattle.saved.specs.Places.{FETCH, FETCH-PAGE, FETCH-LEVEL, FETCH-PA, HINTS, HINT-PA, ENTRIES, ENTRY-GENERATION, ENTRY-ATTRIBUTES, ENTRY-PA}
-use Rattle.saved.specs.Places.{LEVEL-HITS, LEVEL-WALKS}
+use Rattle.saved.specs.Places.{SCTLR, TCR, TTBR0, TTBR1-EL1, MAIR, VBAR, ELR, SPSR, ESR, FAR, SCR-EL3, HCR-EL2, VPIDR-EL2, VMPIDR-EL2, PAR-EL1, PC}
+use Rattle.saved.specs.Places.{NZCV, DAIF, SPSEL, GENERAL, LEVEL, UNPRIVILEGED, FLUSHES, DROPS, EPOCH, LAST-PA, ABORT-PA, GENERATION, ASID, FETCH}
+use Rattle.saved.specs.Places.{FETCH-PAGE, FETCH-LEVEL, FETCH-PA, HINTS, HINT-PA, ENTRIES, ENTRY-GENERATION, ENTRY-ATTRIBUTES, ENTRY-PA, LEVEL-HITS}
+use Rattle.saved.specs.Places.{LEVEL-WALKS}
 use Rattle.saved.specs.WordsOf.{attributes, fetch_known, fetch_or_zeros, word_of}
 
 -- of three words, by the level that the register belongs to

@@ -4,8 +4,7 @@ use Rattle.word.specs.Bits.{flag}
 use Rattle.word.specs.Tables.{table}
 use Rattle.sysreg.specs.Regs.{levels}
 use Rattle.sysreg.specs.declared.{regs.Control.Control, regs.SysRegs.SysRegs}
-use Rattle.tlb.specs.Tlb.{hint_at, entry_at}
-use Rattle.tlb.specs.Count.{tally_at}
+use Rattle.tlb.specs.Tlb.{hint_at, entry_at, tally_at}
 use Rattle.tlb.specs.declared.{entry.Entry.Entry, hint.Hint.Hint, hint.FetchHint.FetchHint, Inval.Inval}
 use Rattle.tlb.specs.declared.Inval.TheVariants.{All, Page, Asid}
 use Rattle.cpu.specs.declared.Core.{Core}

@@ -11,9 +11,9 @@ use Rattle.cpu.specs.Bare.{Bare, bare_of}
 use Rattle.cpu.specs.declared.Core.{Core}
 use Rattle.system.specs.declared.decode.Encoding.{Encoding}
 use Rattle.cpu.specs.declared.call.Call.{Call}
-use Rattle.cpu.specs.Answers.{StoreAnswer}
+use Rattle.cpu.specs.Bytes.{StoreAnswer}
 use Rattle.cpu.specs.System.{zero_of, zero_ram}
-use Rattle.cpu.specs.Replies.{storing}
+use Rattle.cpu.specs.Check.{storing}
 use Rattle.history.specs.World.{uncached}
 use Rattle.history.specs.History.{Event}
 use Rattle.history.specs.Invisible.{answers_run, plain_answers, plain_answers_run}
@@ -23,12 +23,12 @@ use Rattle.transparency.specs.Events.{plain_in, zero_steps, sys_steps, steps_in,
 use Rattle.transparency.specs.Claim.{access_in, sized_in}
 use Rattle.transparency.specs.Starts.{ram_zeroed, zero_later, sys_later, later_of, later_in}
 use Rattle.transparency.specs.Steps.{on_done}
-use Rattle.transparency.specs.Replies.{Outcome, outcome, outcome_of, load_by_size, bare_answers, bare_zero_one}
+use Rattle.transparency.specs.Replies.{Outcome, outcome, outcome_of, load_by_size, bare_answers, bare_zero_one, bare_zero, bare_sys, bare_call}
+use Rattle.transparency.specs.Replies.{bare_reply}
 use Rattle.transparency.specs.Says.{sys_says, call_says}
-use Rattle.transparency.specs.Replies.{bare_zero, bare_sys, bare_call, bare_reply}
 use Rattle.transparency.proofs.Bridge.{stored-bare, stored-tlb}
-use Rattle.transparency.proofs.Answered.{one-page, next-aligned, start-aligned, access_given, store-answered, zero_outcome, zero_given, store_ends, core_then}
-use Rattle.transparency.proofs.Answered.{tlb_then, store_given, one-given, one-outcome, zero-said, reply-is}
+use Rattle.transparency.proofs.Answered.{one-page, next-aligned, start-aligned, access_given, store-answered, zero_outcome, zero_given, store_ends}
+use Rattle.transparency.proofs.Answered.{core_then, tlb_then, store_given, one-given, one-outcome, zero-said, reply-is}
 use Rattle.word.specs.declared.ram.Width.{Width}
 
 cons_tail : {g h : Given} {l k : List Given} → ◌≡◌ {A = List Given} (g ∷ l) (h ∷ k) → l ≡ k

@@ -7,19 +7,16 @@ use Rattle.tlb.specs.Asks.{translates, Given}
 use Rattle.tlb.specs.declared.access.Kind.TheVariants as Kind
 use Rattle.tlb.specs.declared.Tlb.{Tlb}
 use Rattle.tlb.specs.Answers.{Answer}
-use Rattle.cpu.specs.Answers.{Placed, StoreAnswer}
+use Rattle.cpu.specs.Bytes.{Placed, StoreAnswer, crosses, load_end, store_end, store_ram_end, fetch_end}
 use Rattle.cpu.specs.Bare.{Bare, bare_of}
 use Rattle.cpu.specs.Core.{reg_of}
-use Rattle.cpu.specs.Place.{crosses}
-use Rattle.cpu.specs.Ends.{load_end, store_end, store_ram_end, fetch_end}
-use Rattle.cpu.specs.Translations.{translate_in, translate_fetch_in}
-use Rattle.cpu.specs.Memory.{stepped_now, fetch_stepped_now, translate_of, read_of, write_of, ram_after_write, fetch_of, fetch_pa_of, data_pa_of}
-use Rattle.cpu.specs.OpLaws.{placed_by}
+use Rattle.cpu.specs.Memory.{translate_in, translate_fetch_in, stepped_now, fetch_stepped_now, translate_of, read_of, write_of, ram_after_write}
+use Rattle.cpu.specs.Memory.{fetch_of, fetch_pa_of, data_pa_of}
+use Rattle.cpu.proofs.OpLaws.{placed_by}
 use Rattle.cpu.specs.declared.Core.{Core}
 use Rattle.cpu.specs.declared.call.Call.{Call}
-use Rattle.cpu.specs.Registers.{after_register_write}
-use Rattle.cpu.specs.System.{zero_of, zero_ram, sys_of, sys_ram}
-use Rattle.cpu.specs.Replies.{loading, storing}
+use Rattle.cpu.specs.System.{after_register_write, zero_of, zero_ram, sys_of, sys_ram}
+use Rattle.cpu.specs.Check.{loading, storing}
 use Rattle.cpu.specs.Step.{run_of, ram_of, step_of, ram_after}
 use Rattle.history.specs.History.{answer_of, answers, tlb_asks}
 use Rattle.history.specs.Invisible.{answers_run}

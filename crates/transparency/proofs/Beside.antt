@@ -3,8 +3,7 @@ use Rattle.std.proofs.Common.{arith, rules, ap, subst, ◌∙◌}
 use Rattle.std.specs.Prelude.{◌≡◌, refl}
 use Rattle.cpu.specs.Bare.{Bare, fresh_bare, bare_of}
 use Rattle.cpu.specs.Core.{fresh_core}
-use Rattle.cpu.specs.Registers.{after_register_write}
-use Rattle.cpu.specs.System.{sys_of, sys_ram}
+use Rattle.cpu.specs.System.{after_register_write, sys_of, sys_ram}
 use Rattle.cpu.specs.Step.{ends, run_of, ram_of, step_of, ram_after}
 use Rattle.history.specs.Calls.{bare_run}
 use Rattle.history.proofs.EveryCall.{run-bare as runs-agree}

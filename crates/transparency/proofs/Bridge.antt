@@ -7,16 +7,16 @@ use Rattle.word.specs.Ram.{width_of, bytes_in}
 use Rattle.tlb.specs.declared.access.Kind.{Kind}
 use Rattle.system.specs.declared.decode.SysOp.{SysOp}
 use Rattle.cpu.specs.Bare.{Bare, with_privilege, bare_of, with_regs}
-use Rattle.cpu.specs.Core.{reg_of, set_reg, after_access}
+use Rattle.cpu.specs.Core.{reg_of, set_reg, after_access, Answered}
 use Rattle.cpu.specs.Memory.{write_of}
-use Rattle.cpu.specs.OpLaws as Laws
+use Rattle.cpu.specs.Says as Operations
+use Rattle.cpu.specs.Asks.{on_now}
 use Rattle.cpu.proofs.OpLaws as Proved
 use Rattle.cpu.specs.declared.Core.{Core}
 use Rattle.system.specs.declared.decode.Encoding.{Encoding}
 use Rattle.cpu.specs.declared.call.Call.{Call}
-use Rattle.cpu.specs.Fit.{refit_of}
-use Rattle.cpu.specs.Registers.{with_regs as coreRegs, applied_of, registered, after_register_write, with_privilege as coreWho, set_level, set_mark, abort_of}
-use Rattle.cpu.specs.System.{with_par as corePar, at_of, tlbi_core, zero_of, sys_by, sys_of}
+use Rattle.cpu.specs.System.{refit_of, with_regs as coreRegs, applied_of, registered, after_register_write, with_privilege as coreWho, set_level}
+use Rattle.cpu.specs.System.{set_mark, abort_of, with_par as corePar, at_of, tlbi_core, zero_of, sys_by, sys_of}
 use Rattle.cpu.specs.Check.{missed_of}
 use Rattle.cpu.proofs.EveryCallEnds.{all-passed}
 use Rattle.cpu.specs.Step.{ends, load_by, store_by, run_of, refused_or, step_of}
@@ -26,14 +26,14 @@ use Rattle.history.specs.History.{writes, Event, steps, plain_run, tlb_asks, tlb
 use Rattle.history.specs.Calls.{Bridge}
 use Rattle.history.specs.Instance.{Ram, real}
 use Rattle.transparency.specs.Bare.{missed_in, op_in, operand_in, written_in, number, by_sys, by_write, ruled_in, if_allowed, sys_does, bare_does}
-use Rattle.transparency.specs.Events.{plain_in, does, asking, idle, setting, zero_steps, sys_steps, steps_in, events_in, tlbi_event}
 use Rattle.transparency.specs.Bare.{bare_step}
+use Rattle.transparency.specs.Events.{plain_in, does, asking, idle, setting, zero_steps, sys_steps, steps_in, events_in, tlbi_event}
 use Rattle.transparency.specs.Claim.{access_in, sized_in}
 use Rattle.transparency.specs.Starts.{ram_zeroed, zero_later, sys_later, later_of, later_in}
 use Rattle.transparency.specs.Machine.{machine}
 use Rattle.word.specs.declared.ram.Width.{Width}
 use Rattle.sysreg.specs.Write.{WriteAnswer, Written}
-use Rattle.cpu.specs.Results.{Stored}
+use Rattle.cpu.specs.Bytes.{StoreAnswer}
 
 -- The core d that a call made of c, the state b without a cache after it, and the call's events.
 pub record Fits (c d : Core) (b : Bare) (es : List (Event real)) : Type 0 where
@@ -46,34 +46,34 @@ fits-idle c m = record { bare = refl; plain = refl; tlb = refl }
 
 -- TRANSLATIONS
 
-operation-fits : (c : Core) (m : Ram) (o : Laws.Operation)
-    → Fits c (Laws.operation_core c m.base m.bytes o) (bare_of c) (steps m (asking (Laws.asks_of (Laws.on_now c) o)) ∷ [])
+operation-fits : (c : Core) (m : Ram) (o : Operations.Operation)
+    → Fits c (Operations.operation_core c m.base m.bytes o) (bare_of c) (steps m (asking (Operations.asks_of (on_now c) o)) ∷ [])
 operation-fits c m o =
-    record { bare = Proved.kept c m.base m.bytes o; plain = refl; tlb = Laws.tlb-after c m.base m.bytes o }
+    record { bare = Proved.kept c m.base m.bytes o; plain = refl; tlb = Proved.tlb-after c m.base m.bytes o }
 
 load_fits : (c : Core) (m : Ram) (va : ℕ) (s : Option Width)
     → Fits c (load_by s c m.base m.bytes va).core (bare_of c) (steps m (asking (sized_in (bare_of c) va s Kind.Read)) ∷ [])
-load_fits c m va (Some w) = operation-fits c m (Laws.load va (bytes_in w))
+load_fits c m va (Some w) = operation-fits c m (Operations.load va (bytes_in w))
 load_fits c m va None = fits-idle c m
 
 store-fits : (c : Core) (m : Ram) (va : ℕ) (s : Option Width)
     → Fits c (store_by s c m.base m.bytes va).core (bare_of c) (steps m (asking (sized_in (bare_of c) va s Kind.Write)) ∷ [])
-store-fits c m va (Some w) = operation-fits c m (Laws.store va (bytes_in w) 0)
+store-fits c m va (Some w) = operation-fits c m (Operations.store va (bytes_in w) 0)
 store-fits c m va None = fits-idle c m
 
 -- ZEROING
 
 -- a store leaves the state without a cache, and of the cache what its translations leave
 pub stored-bare : (c : Core) (m : Ram) (va : ℕ) → bare_of (write_of c m.base m.bytes va 8).core ≡ bare_of c
-stored-bare c m va = Proved.kept c m.base m.bytes (Laws.store va 8 0)
+stored-bare c m va = Proved.kept c m.base m.bytes (Operations.store va 8 0)
 
 pub stored-tlb : (c : Core) (m : Ram) (va : ℕ)
     → (write_of c m.base m.bytes va 8).core.tlb ≡ tlb_asks real (plain_in (bare_of c)) m (access_in (bare_of c) va 8 Kind.Write) c.tlb
-stored-tlb c m va = Laws.tlb-after c m.base m.bytes (Laws.store va 8 0)
+stored-tlb c m va = Proved.tlb-after c m.base m.bytes (Operations.store va 8 0)
 
 -- the store at va and n further ones: after the first, which leaves the state without a cache, the rest
 module _ (c : Core) (m : Ram) (va : ℕ) where
-  abbrev stored : Stored
+  abbrev stored : Answered StoreAnswer
   stored = write_of c m.base m.bytes va 8
 
   abbrev ZeroFits : ℕ → Core → Ram → ℕ → Type 0
@@ -142,12 +142,12 @@ run_fits : (c : Core) (m : Ram) (x : Call) → missed_in (bare_of c) m x ≡ 0
     (steps_in (bare_of c) m (if_allowed (ruled_in (bare_of c) x) (later_of c m x) []) x)
     (steps m idle ∷ []))
 unfolding run_of sys_of reg_of after_register_write set_mark set_reg abort_of
-run_fits c m (Translate kind va) p = operation-fits c m (Laws.translate va kind)
-run_fits c m (DataPa va) p = operation-fits c m (Laws.data_pa va)
-run_fits c m (FetchPa va) p = operation-fits c m (Laws.fetch_pa va)
+run_fits c m (Translate kind va) p = operation-fits c m (Operations.translate va kind)
+run_fits c m (DataPa va) p = operation-fits c m (Operations.data_pa va)
+run_fits c m (FetchPa va) p = operation-fits c m (Operations.fetch_pa va)
 run_fits c m (Load va size) p = load_fits c m va (width_of size)
 run_fits c m (Store va size value) p = store-fits c m va (width_of size)
-run_fits c m (Fetch va) p = operation-fits c m (Laws.fetch va)
+run_fits c m (Fetch va) p = operation-fits c m (Operations.fetch va)
 run_fits c m (System e) p = sys-fits (op_in (bare_of c) e) c m e
 run_fits c m (Register key value) p = write-fits c m (written_in (bare_of c) key value) (written_in (bare_of c) key value).answer
 run_fits c m (Level level) p = level-fits c m level (level-low c.privilege.level m.base (length m.bytes) level p)

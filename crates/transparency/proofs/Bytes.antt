@@ -5,21 +5,19 @@
 use Rattle.std.proofs.Common.{rules, sym, ap, ◌∙◌, arith}
 use Rattle.std.specs.Prelude.{◌≡◌, refl, false, slice_index, Err, List, [], ◌∷◌, ◌++◌, ℕ, ◌+◌, ◌^◌, ◌≤◌, ◌<◌, Ok}
 use Rattle.std.proofs.Math.ListN.{length}
-use Rattle.walk.proofs.TagLaws.{untagged-plus}
+use Rattle.walk.proofs.SizeLaws.{untagged-plus}
 use Rattle.word.specs.Ram.{word_at}
 use Rattle.tlb.specs.Access.{flat_answer}
 use Rattle.tlb.specs.Answers.{Answer}
-use Rattle.tlb.proofs.FlatLaws.{flat-given, flat-fits}
+use Rattle.tlb.proofs.Cells.{flat-given, flat-fits}
 use Rattle.tlb.specs.Asks.{translates}
 use Rattle.tlb.specs.declared.access.Kind.{Kind}
 use Rattle.tlb.specs.declared.access.Kind.TheVariants.{Read, Write}
 use Rattle.cpu.specs.Bare.{Bare, fresh_bare, bare_of}
-use Rattle.cpu.specs.Answers.{Placed}
+use Rattle.cpu.specs.Bytes.{Placed, placed_one, address_in}
 use Rattle.cpu.specs.Core.{fresh_core, after_access}
-use Rattle.cpu.specs.Place.{placed_one, address_in}
-use Rattle.cpu.specs.Translations.{translate_in, located_of}
-use Rattle.cpu.specs.Memory.{stepped_now, located_now, translate_of, ram_after_write}
-use Rattle.cpu.specs.OpLaws.{on_now}
+use Rattle.cpu.specs.Memory.{translate_in, located_of, stepped_now, located_now, translate_of, ram_after_write}
+use Rattle.cpu.specs.Asks.{on_now}
 use Rattle.cpu.specs.OwnAddress.{byte_va, Ready}
 use Rattle.cpu.proofs.ByteMeaning.{load_byte, store_byte, store-others, load-flat, store-flat}
 use Rattle.cpu.proofs.OpLaws.{write-leaves}

@@ -8,9 +8,9 @@ use Prim.Native.Nat.{zero-le}
 use Rattle.walk.specs.Regime.{bank_of}
 use Rattle.tlb.specs.Answers.{Answer}
 use Rattle.tlb.specs.Asks.{Ask, translates, fetches, address_of, onward}
-use Rattle.tlb.specs.Lists.{Each, done, more}
+use Rattle.tlb.specs.Live.{Each, done, more}
 use Rattle.tlb.specs.Model.{Model}
-use Rattle.tlb.specs.Work.{no_work}
+use Rattle.tlb.specs.Translate.{no_work}
 use Rattle.tlb.specs.declared.access.Kind.{Kind}
 use Rattle.tlb.specs.declared.{Tlb.Tlb, work.Work.Work}
 use Rattle.system.specs.declared.{decode.SysOp.SysOp}

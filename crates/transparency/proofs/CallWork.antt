@@ -5,19 +5,18 @@ use Rattle.word.specs.Bits.{wrap}
 use Rattle.word.specs.declared.ram.Width.{Width}
 use Rattle.tlb.specs.Asks.{Ask, answer_of, work_of}
 use Rattle.tlb.proofs.Asks.{onward-same}
-use Rattle.tlb.specs.Work.{read_more}
+use Rattle.tlb.specs.Translate.{read_more}
 use Rattle.tlb.specs.declared.access.Kind.{Kind}
 use Rattle.tlb.specs.declared.{work.Work.Work}
 use Rattle.system.specs.declared.{decode.SysOp.SysOp}
 use Rattle.system.specs.declared.decode.SysOp.TheVariants as Op
 use Rattle.system.specs.declared.decode.Encoding.{Encoding}
 use Rattle.cpu.specs.Bare.{Bare, bare_of}
-use Rattle.cpu.specs.Core.{reg_of, after_access}
+use Rattle.cpu.specs.Core.{reg_of, after_access, Answered}
 use Rattle.cpu.specs.Memory.{write_of}
-use Rattle.cpu.specs.OpLaws.{access_now}
-use Rattle.cpu.specs.Results.{Stored}
-use Rattle.cpu.specs.Work.{translate_work, fetch_work, access_work, write_work, zero_work, at_work, sys_work_by, sys_work, load_work_by, store_work_by}
-use Rattle.cpu.specs.Work.{run_work, step_work}
+use Rattle.cpu.specs.Asks.{access_now}
+use Rattle.cpu.specs.Work.{translate_work, fetch_work, access_work, write_work, zero_work, at_work, sys_work_by, sys_work, load_work_by}
+use Rattle.cpu.specs.Work.{store_work_by, run_work, step_work}
 use Rattle.cpu.specs.declared.Core.{Core}
 use Rattle.cpu.specs.declared.call.Call.{Call}
 use Rattle.cpu.specs.declared.call.Call.TheVariants.{System}
@@ -30,6 +29,7 @@ use Rattle.transparency.specs.Claim.{sized_in}
 use Rattle.transparency.specs.Events.{plain_in, asking, zero_steps, sys_steps, steps_in, events_in}
 use Rattle.transparency.specs.Starts.{ram_zeroed, zero_later, sys_later, later_of, later_in}
 use Rattle.transparency.proofs.Bridge.{stored-tlb}
+use Rattle.cpu.specs.Bytes.{StoreAnswer}
 
 abbrev pub did : Core → List (Event real) → Work → Work
 did c es v = works_run real (plain_in (bare_of c)) es c.tlb v
@@ -52,7 +52,7 @@ store-did c m va s v = grind arith
 
 -- ZEROING: the store at va and n further ones
 module _ (c : Core) (m : Ram) (va : ℕ) (v : Work) where
-  abbrev stored : Stored
+  abbrev stored : Answered StoreAnswer
   stored = write_of c m.base m.bytes va 8
 
   abbrev first : Work

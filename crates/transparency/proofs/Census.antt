@@ -3,15 +3,13 @@ use Rattle.std.proofs.Common.{rules, ap, ◌∙◌, arith}
 use Rattle.std.specs.Prelude.{◌≡◌, true, List, ℕ, ◌/◌, ◌%◌, ◌<◌, eqb, get_or}
 use Rattle.walk.specs.WalkBounds.{SoundFresh}
 use Rattle.walk.specs.declared.{fresh.Fresh.Fresh}
-use Rattle.census.specs.Tally.{how_many}
-use Rattle.census.specs.Count.{page_at, census_at}
-use Rattle.census.specs.Laws.{faults_with, has_rights}
+use Rattle.census.specs.Count.{how_many, page_at, census_at, faults_with, has_rights}
 use Rattle.census.proofs.Laws.{sound-at, status-count}
 use Rattle.tlb.specs.declared.access.Kind.{Kind}
 use Rattle.cpu.specs.Bare.{Bare, bare_of}
 use Rattle.cpu.specs.declared.Core.{Core}
-use Rattle.cpu.specs.Inspect.{counts_after}
-use Rattle.tlb.specs.Fresh.{end_answer}
+use Rattle.cpu.specs.Step.{counts_after}
+use Rattle.tlb.specs.Translate.{end_answer}
 use Rattle.history.specs.World.{need_now, uncached}
 use Rattle.history.proofs.Fresh.{uncached-end}
 use Rattle.history.specs.Instance.{Ram, memory_of, real}

@@ -5,8 +5,8 @@ use Rattle.std.specs.Prelude.{◌≡◌, refl, true, false, List, [], ◌∷◌,
 use Rattle.walk.specs.declared.{level.Leaf.Leaf}
 use Rattle.sysreg.specs.declared.regs.Regime.{Regime}
 use Rattle.tlb.specs.Asks.{Ask, Given, kind_of, address_of}
-use Rattle.tlb.specs.Lists.{Each}
-use Rattle.tlb.proofs.Lists.{each-imp}
+use Rattle.tlb.specs.Live.{Each}
+use Rattle.tlb.proofs.Cells.{each-imp}
 use Rattle.tlb.specs.declared.{access.Kind.Kind, Inval.Inval}
 use Rattle.cpu.specs.Bare.{Bare, fresh_bare, bare_of}
 use Rattle.cpu.specs.Core.{fresh_core}

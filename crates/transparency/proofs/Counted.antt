@@ -9,10 +9,10 @@ use borrow.Author.Tests.{eq-eqb, ne_eqb}
 use Rattle.sysreg.specs.Shape.{asid_of}
 use Rattle.sysreg.specs.declared.regs.Control.{Control}
 use Rattle.tlb.specs.Model.{Model, inval_counted, invalidate, retag, broadcast}
-use Rattle.tlb.specs.Counting.{how_counted}
-use Rattle.tlb.proofs.Counting.{translate-counts, fetch-counts}
+use Rattle.tlb.specs.Runs.{how_counted}
+use Rattle.tlb.proofs.Translations.{translate-counts, fetch-counts}
 use Rattle.tlb.specs.Live.{counters_of, pending_of, live}
-use Rattle.tlb.proofs.Levels.{counters-tell}
+use Rattle.tlb.proofs.Cells.{counters-tell}
 use Rattle.tlb.specs.Asks.{Ask, translates, fetches}
 use Rattle.tlb.specs.declared.{access.Kind.Kind, Inval.Inval, Tlb.Tlb}
 use Rattle.system.specs.declared.decode.SysOp.TheVariants as Op

@@ -5,20 +5,18 @@ use Rattle.std.proofs.Math.Path.{refl, sym, ap}
 use Rattle.std.proofs.Common.{ap₂, subst, ◌∙◌, append-nil, arith}
 use Rattle.word.specs.Bits.{align_down}
 use Rattle.word.specs.Ram.{bytes_in}
-use Rattle.tlb.specs.Lists.{Each, done, more}
+use Rattle.tlb.specs.Live.{Each, done, more}
 use Rattle.tlb.specs.Tlb.{fresh}
 use Rattle.tlb.specs.Asks.{Ask, translates, fetches, kind_of, address_of}
 use Rattle.tlb.specs.declared.{access.Kind.Kind, Tlb.Tlb}
 use Rattle.tlb.specs.Answers.{Answer}
-use Rattle.cpu.specs.Answers.{Placed}
+use Rattle.cpu.specs.Bytes.{Placed, reached_by, store_end, store_ram_end, fetch_end}
 use Rattle.cpu.specs.Bare.{Bare, fresh_bare, bare_of}
 use Rattle.cpu.specs.Core.{fresh_core}
-use Rattle.cpu.specs.Translations.{translate_in, translate_fetch_in}
+use Rattle.cpu.specs.Memory.{translate_in, translate_fetch_in, stepped_now, fetch_stepped_now, translate_of, fetch_pa_of, data_pa_of, fetch_of}
 use Rattle.cpu.specs.Asks.{first_of, placed_from}
-use Rattle.cpu.specs.Ends.{reached_by, store_end, store_ram_end, fetch_end}
-use Rattle.cpu.specs.Memory.{stepped_now, fetch_stepped_now, translate_of, fetch_pa_of, data_pa_of, fetch_of}
-use Rattle.cpu.specs.OpLaws.{placed_by}
-use Rattle.cpu.specs.Replies.{translation, reaching, storing, fetching}
+use Rattle.cpu.proofs.OpLaws.{placed_by}
+use Rattle.cpu.specs.Check.{translation, reaching, storing, fetching}
 use Rattle.cpu.specs.Step.{run_of, ram_of, step_of, ram_after}
 use Rattle.cpu.specs.declared.call.Call.TheVariants.{System}
 use Rattle.history.specs.World.{Plain, regime_now, page_now}

@@ -10,23 +10,22 @@ use Rattle.word.specs.Ram.{width_of, bytes_in, within}
 use Rattle.word.specs.declared.ram.Width.{Width}
 use Rattle.fault.specs.First.{first}
 use Rattle.fault.specs.declared.Fault.{Fault}
-use Rattle.tlb.specs.Lists.{Each, done, more}
+use Rattle.tlb.specs.Live.{Each, done, more}
 use Rattle.tlb.specs.Asks.{Ask, translates, fetches, address_of, Given, onward}
 use Rattle.tlb.proofs.Asks.{onward-same}
 use Rattle.tlb.specs.declared.{access.Kind.Kind, Tlb.Tlb}
 use Rattle.tlb.specs.Answers.{Answer}
-use Rattle.cpu.specs.Answers.{Placed, Verdict, outside_at}
+use Rattle.cpu.specs.Bytes.{Placed, Verdict, outside_at, in_page, next_page, crosses, byte_at, first_outside, first_part, verdict_of, got_by}
+use Rattle.cpu.specs.Bytes.{value_at, load_of, insn_of, reached_by, failed_access, loaded_from, load_end, store_end_by, store_end, fetched_from}
+use Rattle.cpu.specs.Bytes.{fetch_end}
 use Rattle.cpu.specs.Bare.{Bare}
-use Rattle.cpu.specs.Place.{in_page, next_page, crosses, byte_at, first_outside, first_part, verdict_of}
-use Rattle.cpu.proofs.PlaceLaws.{same-outside, same-fault}
-use Rattle.cpu.specs.Bytes.{got_by, value_at, load_of, insn_of}
+use Rattle.cpu.proofs.BytesLaws.{same-outside, same-fault}
 use Rattle.cpu.specs.Asks.{asks_by, placed_from}
-use Rattle.cpu.specs.Ends.{reached_by, failed_access, loaded_from, load_end, store_end_by, store_end, fetched_from, fetch_end}
 use Rattle.cpu.specs.declared.{place.Pages.Pages, place.Place.Place, place.FaultAt.FaultAt}
 use Rattle.cpu.specs.declared.call.Call.{Call}
 use Rattle.system.specs.declared.decode.SysOp.{SysOp}
 use Rattle.system.specs.declared.decode.SysOp.TheVariants as Op
-use Rattle.cpu.specs.Replies.{translation, loading, storing, fetching, reaching}
+use Rattle.cpu.specs.Check.{translation, loading, storing, fetching, reaching}
 use Rattle.cpu.specs.declared.call.Call.TheVariants.{Translate, DataPa, FetchPa, Load, Store, Fetch, System}
 use Rattle.history.specs.World.{Plain, on_now}
 use Rattle.history.specs.History.{steps, answer_of, tlb_ask, answers, tlb_asks}

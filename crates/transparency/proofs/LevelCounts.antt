@@ -7,11 +7,10 @@ use Rattle.std.specs.Prelude.{◌≡◌, true, List, [], ◌∷◌, ℕ, ◌+◌
 use Rattle.word.specs.Bits.{align_down, wrap}
 use Rattle.word.specs.Ram.{width_of}
 use Rattle.tlb.specs.Asks.{translates, fetches}
-use Rattle.tlb.specs.Counting.{how_counted, sums}
-use Rattle.tlb.proofs.Counting.{fetch-counts}
-use Rattle.tlb.specs.Live.{counters_of}
-use Rattle.tlb.specs.Lists.{Each, done}
-use Rattle.tlb.proofs.Lists.{each-imp}
+use Rattle.tlb.specs.Runs.{how_counted, sums}
+use Rattle.tlb.proofs.Translations.{fetch-counts}
+use Rattle.tlb.specs.Live.{counters_of, Each, done}
+use Rattle.tlb.proofs.Cells.{each-imp}
 use Rattle.tlb.specs.Model.{Counters, Model, empty_model}
 use Rattle.tlb.specs.declared.access.Kind.TheVariants as Kind
 use Rattle.tlb.specs.declared.Tlb.{Tlb}
@@ -176,7 +175,7 @@ quiet-stays list m x q l =
     let none : made_after list m x ≡ [] = events-none (bare_after list) m (later_in (core_after list) m x) (model_after_list list) x q in
     unmade-stays list m x l (subst (Each (λ (y : Made). l ≡ y.level → ⊥)) (sym none) done)
 
--- THE MARK, of the translation that a fetch begins with (of others: `mark-free`, tlb/specs/Counting.antt): the counters
+-- THE MARK, of the translation that a fetch begins with (of others: `mark-free`, tlb/specs/Runs.antt): the counters
 -- are a function of how it was answered and of the level
 pub fetch-mark-free : Statement.fetch_mark_free
 fetch-mark-free a b m same how = fetch-counts a m ∙ (λ i. how_counted (how i) (same i) m.counts) ∙ sym (fetch-counts b m)

@@ -3,11 +3,10 @@ use Rattle.std.specs.Prelude.{◌≡◌, true, List, [], ◌∷◌, ◌++◌}
 use Rattle.std.proofs.Common.{ap, arith}
 use Rattle.cpu.specs.Bare.{Bare, fresh_bare, bare_of}
 use Rattle.cpu.specs.Core.{fresh_core}
-use Rattle.cpu.specs.Inspect.{looks}
-use Rattle.cpu.specs.Step.{run_of, step_of}
+use Rattle.cpu.specs.Step.{looks, run_of, step_of}
 use Rattle.cpu.specs.declared.Core.{Core}
 use Rattle.cpu.specs.declared.call.Call.{Call}
-use Rattle.cpu.proofs.Looking.{looking-core}
+use Rattle.cpu.proofs.EveryCallEnds.{looking-core}
 use Rattle.history.specs.Calls.{Lent, run, bare_run}
 use Rattle.history.specs.Instance.{Ram, real}
 use Rattle.transparency.specs.Bare.{bare_step}

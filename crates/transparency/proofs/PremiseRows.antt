@@ -6,7 +6,7 @@ use Rattle.sysreg.specs.Regs.{fresh_control, fresh_sys}
 use Rattle.sysreg.specs.Encoding.{banked_at, register_at}
 use Rattle.sysreg.specs.Write.{control_with, sys_with, write_reg}
 use Rattle.sysreg.specs.Shape.{same_shape, asid_base, asid_of}
-use Rattle.tlb.specs.Lists.{Each, done, more}
+use Rattle.tlb.specs.Live.{Each, done, more}
 use Rattle.tlb.specs.declared.Inval.{Inval}
 use Rattle.tlb.specs.declared.Inval.TheVariants.{All, Page, Asid}
 use Rattle.system.specs.Decode.{named, decode_of}

@@ -7,12 +7,11 @@ use Rattle.system.specs.declared.decode.SysOp.TheVariants as Op
 use Rattle.cpu.specs.Bare.{Bare, bare_of}
 use Rattle.cpu.specs.Core.{fresh_core, reg_of}
 use Rattle.cpu.specs.Memory.{write_of, ram_after_write}
-use Rattle.cpu.specs.OpLaws as Laws
+use Rattle.cpu.specs.Says as Operations
 use Rattle.cpu.proofs.OpLaws as Proved
 use Rattle.cpu.specs.declared.Core.{Core}
-use Rattle.cpu.specs.Answers.{StoreAnswer}
-use Rattle.cpu.specs.Check.{missed_of}
-use Rattle.cpu.specs.Replies.{storing}
+use Rattle.cpu.specs.Bytes.{StoreAnswer}
+use Rattle.cpu.specs.Check.{missed_of, storing}
 use Rattle.cpu.specs.declared.{call.Call.Call}
 use Rattle.system.specs.declared.decode.Encoding.{Encoding}
 use Rattle.cpu.specs.declared.call.Call.TheVariants.{Store, System}
@@ -70,7 +69,7 @@ module _ (c : Core) (m : Ram) (va : ℕ) (passed : missed_in (bare_of c) m (Stor
   -- the next one misses none either
   next-passed : (next : ℕ) → missed_in (bare_of (write_of c m.base m.bytes va 8).core) (window_of m.base (ram_after_write c m.base m.bytes va 8 0)) (Store next 8 0) ≡ 0
   unfolding missed_of
-  next-passed next = rw (stored-bare c m va, Proved.ram-length c m.base m.bytes (Laws.store va 8 0)) passed
+  next-passed next = rw (stored-bare c m va, Proved.ram-length c m.base m.bytes (Operations.store va 8 0)) passed
 
 stores-are : (n : ℕ) (c : Core) (m : Ram) (va : ℕ) → missed_in (bare_of c) m (Store va 8 0) ≡ 0
     → core_run c (stores n c m va) ≡ (zero_of n c m.base m.bytes va).core

@@ -12,34 +12,27 @@ use Rattle.sysreg.specs.declared.regs.Control.{Control}
 use Rattle.sysreg.specs.declared.regs.Register.TheVariants.{Sctlr, Tcr, Ttbr0}
 use Rattle.sysreg.specs.declared.regs.Regime.TheVariants.{El1}
 use Rattle.walk.specs.Answers.{Walked}
-use Rattle.walk.specs.Tag.{untagged}
-use Rattle.walk.specs.Size.{pa_size}
-use Rattle.walk.specs.Table.{range_of, params_of, table_next, leaf_permissions, leaf_translation, leaf_result, level_next, descaddr, lookup_next, walk_from, walk_range}
-use Rattle.walk.specs.Table.{table_walk}
-use Rattle.walk.specs.Walk.{walk_of}
+use Rattle.walk.specs.Regime.{untagged, pa_size}
+use Rattle.walk.specs.Table.{range_of, params_of, table_next, leaf_permissions, leaf_translation, leaf_result, level_next, descaddr, lookup_next}
+use Rattle.walk.specs.Table.{walk_from, walk_range, table_walk}
+use Rattle.walk.specs.Walk.{walk_of, fetches_from, fetches_range, fetches_of, fresh_reads}
 use Rattle.walk.specs.declared.level.Leaf.{Leaf}
-use Rattle.tlb.specs.Maintenance.{invalidated_of, reshaped_of, retagged_of}
-use Rattle.tlb.specs.Lists.{Each}
-use Rattle.tlb.specs.Entry.{page_dropped}
-use Rattle.tlb.specs.Hint.{place_of}
-use Rattle.tlb.specs.Tlb.{blanks, no_hints, get_of, put_of, flush_of, drop_page_of, invalidate_of}
-use Rattle.tlb.specs.Count.{no_tallies}
+use Rattle.tlb.specs.Tlb.{invalidated_of, reshaped_of, retagged_of, page_dropped, place_of, blanks, no_hints, get_of, put_of, flush_of, drop_page_of}
+use Rattle.tlb.specs.Tlb.{invalidate_of, no_tallies}
+use Rattle.tlb.specs.Live.{Each}
 use Rattle.tlb.specs.Access.{judged}
-use Rattle.tlb.specs.Translate.{walked_in, miss_in}
+use Rattle.tlb.specs.Translate.{walked_in, miss_in, needs_walk}
 use Rattle.tlb.specs.Asks.{translates}
 use Rattle.tlb.specs.declared.access.Kind.TheVariants.{Read}
 use Rattle.tlb.specs.declared.Inval.TheVariants.{Page}
 use Rattle.cpu.specs.Bare.{fresh_bare}
 use Rattle.cpu.specs.Core.{zeros, fresh_core, reg_of, set_reg, after_access}
-use Rattle.cpu.specs.Translations.{translate_in, translate_fetch_in, located_of}
-use Rattle.cpu.specs.Memory.{stepped_now, translate_of, fetch_stepped_now, fetch_pa_of, located_now, read_of, write_of, ram_after_write}
+use Rattle.cpu.specs.Memory.{translate_in, translate_fetch_in, located_of, stepped_now, translate_of, fetch_stepped_now, fetch_pa_of, located_now}
+use Rattle.cpu.specs.Memory.{read_of, write_of, ram_after_write}
 use Rattle.system.specs.Decode.{named, decode_of}
 use Rattle.system.specs.Tlbi.{scope_of, what_of, tlbi_of}
-use Rattle.cpu.specs.Fit.{refit_of}
-use Rattle.cpu.specs.Registers.{with_regs, applied_of, after_register_write, set_level, set_mark}
-use Rattle.cpu.specs.System.{tlbi_core, sys_of, with_par, at_of, zero_of}
-use Rattle.cpu.specs.Check.{missed_of}
-use Rattle.cpu.specs.Replies.{translation}
+use Rattle.cpu.specs.System.{refit_of, with_regs, applied_of, after_register_write, set_level, set_mark, tlbi_core, sys_of, with_par, at_of, zero_of}
+use Rattle.cpu.specs.Check.{missed_of, translation}
 use Rattle.cpu.specs.Step.{run_of, step_of}
 use Rattle.cpu.specs.declared.call.Reply.TheVariants.{Value}
 use Rattle.history.specs.World.{LeavesEqual, covers, page_walk}
@@ -58,12 +51,8 @@ use Rattle.transparency.proofs.Claim.{settled-in-theory, settled-in-claim}
 use Rattle.transparency.proofs.Steps.{Apart}
 use Rattle.transparency.specs.Worked.{none, old, new, start, tidied, steps_of}
 use Rattle.transparency.specs.Worked as Statement
-use Rattle.cpu.specs.Ends.{store_end, store_ram_end}
-use Rattle.cpu.specs.Place.{verdict_of}
-use Rattle.cpu.specs.Bytes.{store_ram}
+use Rattle.cpu.specs.Bytes.{store_end, store_ram_end, verdict_of, store_ram}
 use Rattle.cpu.specs.Work.{translate_work, access_work, zero_work, at_work, sys_work, run_work, step_work}
-use Rattle.walk.specs.Fetches.{fetches_from, fetches_range, fetches_of, fresh_reads}
-use Rattle.tlb.specs.Work.{needs_walk}
 
 abbrev block : ℕ → ℕ → Leaf
 block oa desc = record { oa = oa; desc = desc; perms = 0x3C; level = 1; global = true }

@@ -12,11 +12,9 @@ use Rattle.tlb.specs.declared.access.Kind.TheVariants.{Read, Write}
 use Rattle.cpu.specs.Core.{fresh_core, reg_of}
 use Rattle.cpu.specs.Bytes.{byte_in}
 use Rattle.cpu.specs.Memory.{translate_of, read_of, write_of, ram_after_write}
-use Rattle.cpu.specs.OwnAddress.{own_answer}
-use Rattle.cpu.specs.ByteMeaning.{OwnByte}
+use Rattle.cpu.specs.OwnAddress.{own_answer, OwnByte, Zeroed}
 use Rattle.system.specs.declared.decode.SysOp.TheVariants as Op
 use Rattle.cpu.specs.System.{op_of, sys_of, sys_ram}
-use Rattle.cpu.specs.ZeroMeaning.{Zeroed}
 use Rattle.history.specs.World as World
 use Rattle.history.specs.Calls.{Fed, Shown}
 use Rattle.history.specs.Instance.{Ram, memory_of, real}

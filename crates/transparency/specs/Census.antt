@@ -1,21 +1,18 @@
 -- The page census after every list of calls: it counts what the core without a cache would, page by page.
 use Rattle.std.specs.Prelude.{◌≡◌, Bool, true, false, List, ◌⊎◌, ℕ, ◌/◌, ◌%◌, ◌<◌, eqb, get_or, Ok, Err}
 use Rattle.walk.specs.declared.fresh.Fresh.TheVariants.{Flat}
-use Rattle.census.specs.Tally.{how_many}
-use Rattle.census.specs.Count.{page_at, census_at}
-use Rattle.census.specs.Laws.{has_rights}
+use Rattle.census.specs.Count.{how_many, page_at, census_at, has_rights}
 use Rattle.tlb.specs.declared.access.Kind.{Kind}
 use Rattle.tlb.specs.Answers.{Answer}
 use Rattle.cpu.specs.Bare.{Bare}
 use Rattle.cpu.specs.declared.call.Call.TheVariants.{Census}
-use Rattle.cpu.specs.Inspect.{counts_after}
+use Rattle.cpu.specs.Step.{counts_after}
 use Rattle.history.specs.World.{need_now, uncached}
 use Rattle.history.specs.Fresh.{fresh_now}
 use Rattle.history.specs.Calls.{Lent}
 use Rattle.history.specs.Instance.{Ram, memory_of, real}
-use Rattle.transparency.specs.Bare.{allowed, ruling_in}
+use Rattle.transparency.specs.Bare.{allowed, ruling_in, if_allowed}
 use Rattle.transparency.specs.Events.{plain_in}
-use Rattle.transparency.specs.Bare.{if_allowed}
 use Rattle.transparency.specs.Machine.{machine}
 use Rattle.transparency.specs.Beside.{core_after, bare_after}
 

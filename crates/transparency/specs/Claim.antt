@@ -4,23 +4,23 @@
 --
 -- All is read from the calls, on the registers of the core without a cache (Bare.antt). The core itself stands in two
 -- places, by the definitions that the code's contracts cite: `core_run`, and `answers_of`, what its cache answers.
-use Rattle.std.specs.Prelude.{if◌then◌else◌, ◌≡◌, true, false, List, [], ◌∷◌, ◌++◌, ◌⊎◌, ℕ, ◌+◌, ◌*◌, ◌/◌, ◌%◌, ◌^◌, ◌==◌, Option, Some, None, Ok, Err}
+use Rattle.std.specs.Prelude.{if◌then◌else◌, ◌≡◌, true, false, List, [], ◌∷◌, ◌++◌, ◌⊎◌, ℕ, ◌+◌, ◌*◌, ◌/◌, ◌%◌, ◌^◌, ◌==◌, Option, Some, None, Ok}
+use Rattle.std.specs.Prelude.{Err}
 use Rattle.word.specs.Ram.{width_of, bytes_in}
 use Rattle.word.specs.declared.ram.Width.{Width}
 use Rattle.fault.specs.First.{first}
 use Rattle.sysreg.specs.Shape.{same_shape, asid_of}
 use Rattle.sysreg.specs.declared.regs.Control.{Control}
 use Rattle.walk.specs.Answers.{Walked}
-use Rattle.walk.specs.Regime.{bank_of, stage1_on}
+use Rattle.walk.specs.Regime.{bank_of, stage1_on, untagged}
 use Rattle.sysreg.specs.Regs.{regime_of}
-use Rattle.walk.specs.Tag.{untagged}
 use Rattle.walk.specs.Walk.{walk_of}
 use Rattle.walk.specs.declared.{level.Leaf.Leaf}
 use Rattle.sysreg.specs.declared.regs.Regime.{Regime}
 use Rattle.tlb.specs.Access.{flat_answer}
 use Rattle.tlb.specs.Answers.{Answer}
 use Rattle.tlb.specs.Asks.{Ask, translates, fetches, Given, kind_of, address_of, answers}
-use Rattle.tlb.specs.Lists.{Each}
+use Rattle.tlb.specs.Live.{Each}
 use Rattle.tlb.specs.Model.{as_user, need, span_bits}
 use Rattle.tlb.specs.declared.{access.Kind.Kind, Inval.Inval}
 use Rattle.tlb.specs.declared.access.Kind.TheVariants.{Read, Write}

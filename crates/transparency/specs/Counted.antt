@@ -5,7 +5,7 @@ use Rattle.std.proofs.Math.Bool.{true, false}
 use Rattle.sysreg.specs.Shape.{same_shape, asid_of}
 use Rattle.sysreg.specs.declared.regs.Control.{Control}
 use Rattle.tlb.specs.Model.{Model, one_flush, one_epoch, inval_counted, joined}
-use Rattle.tlb.specs.Counting.{How, how_counted, how_translated, how_fetched}
+use Rattle.tlb.specs.Runs.{How, how_counted, how_translated, how_fetched}
 use Rattle.tlb.specs.Live.{counters_of, pending_of, live}
 use Rattle.tlb.specs.Asks.{Ask, translates, fetches}
 use Rattle.tlb.specs.declared.{Inval.Inval, Tlb.Tlb}
@@ -20,8 +20,7 @@ use Rattle.history.specs.ModelRun.{model_flushed, model_retagged}
 use Rattle.history.specs.Calls.{Lent}
 use Rattle.history.specs.Instance.{Ram, real}
 use Rattle.transparency.specs.Bare.{missed_in, op_in, written_in}
-use Rattle.transparency.specs.Events.{plain_in}
-use Rattle.transparency.specs.Events.{inval_in}
+use Rattle.transparency.specs.Events.{plain_in, inval_in}
 use Rattle.transparency.specs.Machine.{machine}
 use Rattle.transparency.specs.Beside.{core_after, bare_after}
 use Rattle.transparency.specs.ModelCalls.{model_after_list, tlb_after_call}

@@ -4,19 +4,17 @@ use Rattle.std.specs.Prelude.{if◌then◌else◌, ◌≡◌, List, ℕ, Some}
 use Rattle.word.specs.Bits.{align_down}
 use Rattle.word.specs.Ram.{width_of, bytes_in}
 use Rattle.word.specs.declared.ram.Width.{Width}
-use Rattle.tlb.specs.Lists.{Each}
+use Rattle.tlb.specs.Live.{Each}
 use Rattle.tlb.specs.Asks.{address_of}
 use Rattle.tlb.specs.declared.access.Kind.{Kind}
 use Rattle.tlb.specs.Answers.{Answer}
-use Rattle.cpu.specs.Answers.{Placed}
+use Rattle.cpu.specs.Bytes.{Placed, next_page, crosses, placed_one, placed_both, reached_by, load_end, store_end, store_ram_end, fetch_end}
 use Rattle.cpu.specs.Bare.{Bare, fresh_bare, bare_of}
-use Rattle.cpu.specs.Place.{next_page, crosses, placed_one, placed_both}
-use Rattle.cpu.specs.Ends.{reached_by, load_end, store_end, store_ram_end, fetch_end}
 use Rattle.cpu.specs.Memory.{located_now}
 use Rattle.cpu.specs.declared.Core.{Core}
 use Rattle.system.specs.declared.decode.Encoding.{Encoding}
 use Rattle.system.specs.declared.decode.SysOp.TheVariants as Op
-use Rattle.cpu.specs.Replies.{translation, reaching, loading, storing, fetching}
+use Rattle.cpu.specs.Check.{translation, reaching, loading, storing, fetching}
 use Rattle.cpu.specs.Step.{step_of, ram_after}
 use Rattle.cpu.specs.declared.call.Call.TheVariants.{Translate, DataPa, FetchPa, Load, Store, Fetch, System}
 use Rattle.history.specs.World.{regime_now, page_now, on_now, uncached}
@@ -25,8 +23,7 @@ use Rattle.history.specs.Invisible.{Tidy}
 use Rattle.history.specs.Calls.{Fed, lent_of, events_run}
 use Rattle.history.specs.Instance.{Ram, memory_of, real}
 use Rattle.transparency.specs.Bare.{missed_in, op_in, operand_in}
-use Rattle.transparency.specs.Events.{plain_in}
-use Rattle.transparency.specs.Events.{zero_steps}
+use Rattle.transparency.specs.Events.{plain_in, zero_steps}
 use Rattle.transparency.specs.Claim.{access_in}
 use Rattle.transparency.specs.Replies.{outcome_of, bare_zero}
 use Rattle.transparency.specs.Starts.{later_in}

@@ -39,7 +39,7 @@ RepliesFault (Reply.Stopped (Stop.Exception Exception.PcAlignment)) addr fault =
 
 -- Where it comes from, among the answers to the call's translations: from one that met this fault at this address; or,
 -- for an abort, from an access that begins at the address of one that was allowed, with the address of its byte i
--- (which byte: `lowest` of cpu/specs/PlaceLaws.antt, and the first where the access is not split).
+-- (which byte: `lowest` of cpu/proofs/BytesLaws.antt, and the first where the access is not split).
 pub data FaultFrom (gs : List Given) (addr : ℕ) (fault : Fault) : Type 0 where
   translating : (g : Given) → Memᴰ g gs → address_of g.ask ≡ addr → g.answer ≡ Err fault → FaultFrom gs addr fault
   outside : (g : Given) → Memᴰ g gs → (pa : ℕ) → g.answer ≡ Ok pa → (i : ℕ) → i < 8

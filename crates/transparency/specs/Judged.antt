@@ -2,7 +2,7 @@
 -- and each fault that it meets is a row of docs/SCOPE.md's table.
 use Rattle.std.specs.Prelude.{◌≡◌, List, [], ◌++◌, Err}
 use Rattle.fault.specs.declared.Fault.{Fault}
-use Rattle.tlb.specs.Lists.{Each}
+use Rattle.tlb.specs.Live.{Each}
 use Rattle.tlb.specs.Asks.{Given}
 use Rattle.cpu.specs.Bare.{fresh_bare}
 use Rattle.cpu.specs.Core.{fresh_core}

@@ -3,10 +3,9 @@
 -- level, and how each was answered is read from the plain model, on the events of the list (Events.antt; RAM at a zeroing's
 -- later stores as the run shows it: Starts.antt).
 use Rattle.std.specs.Prelude.{◌≡◌, Bool, true, false, List, ℕ, ◌+◌, ◌%◌, ◌^◌}
-use Rattle.tlb.specs.Count.{tally_at}
-use Rattle.tlb.specs.Counting.{how_fetched, Totals, sums}
-use Rattle.tlb.specs.Live.{counters_of}
-use Rattle.tlb.specs.Lists.{Each}
+use Rattle.tlb.specs.Tlb.{tally_at}
+use Rattle.tlb.specs.Runs.{how_fetched, Totals, sums}
+use Rattle.tlb.specs.Live.{counters_of, Each}
 use Rattle.tlb.specs.Model.{Model, Access, empty_model, fetch}
 use Rattle.tlb.specs.declared.Tlb.{Tlb}
 use Rattle.system.specs.declared.decode.SysOp.{SysOp}
@@ -117,7 +116,7 @@ quiet_stays = EveryCall (λ list m x. translates_nothing (bare_after list) x ≡
 abbrev pub refused_stays : Type 0
 refused_stays = EveryCall (λ list m x. (ruling_in (bare_after list) m x ≡ allowed → ⊥) → Leaves list m x)
 
--- THE MARK, of the translation that a fetch begins with (of others: `mark-free`, tlb/specs/Counting.antt): the counters
+-- THE MARK, of the translation that a fetch begins with (of others: `mark-free`, tlb/specs/Runs.antt): the counters
 -- are a function of how it was answered and of the level
 abbrev pub fetch_mark_free : Type 0
 fetch_mark_free =

@@ -3,8 +3,7 @@
 -- where they are called.
 use Rattle.std.specs.Prelude.{◌≡◌, ℕ, Bool, true, List, ◌∷◌, ◌++◌}
 use Rattle.tlb.specs.declared.access.Kind.{Kind}
-use Rattle.cpu.specs.Inspect.{looks}
-use Rattle.cpu.specs.Step.{step_of}
+use Rattle.cpu.specs.Step.{looks, step_of}
 use Rattle.cpu.specs.declared.call.Call.{Call}
 use Rattle.cpu.specs.declared.call.Call.TheVariants.{Census, Windows, Flip}
 use Rattle.history.specs.Calls.{Lent}

@@ -3,7 +3,7 @@
 -- `drops_of`, which the rows judge.
 use Rattle.std.specs.Prelude.{true, false, Bool, [], ◌∷◌, ℕ}
 use Rattle.walk.specs.declared.level.Leaf.{Leaf}
-use Rattle.tlb.specs.Lists.{Each}
+use Rattle.tlb.specs.Live.{Each}
 use Rattle.cpu.specs.Bare.{Bare, fresh_bare}
 use Rattle.cpu.specs.declared.call.Call.{Call}
 use Rattle.cpu.specs.declared.call.Call.TheVariants.{System, Register, Level, General}

@@ -2,12 +2,12 @@
 -- the plain model makes of its translations (history/specs/Tallies.antt), and AT's those of its own walk. What the code reports is
 -- `step_work`, which the contract of its `step` cites.
 use Rattle.std.specs.Prelude.{◌≡◌, true, false, List, ℕ, ◌+◌, length}
-use Rattle.walk.specs.Fetches.{fetches_of, fresh_reads}
+use Rattle.walk.specs.Walk.{fetches_of, fresh_reads}
 use Rattle.walk.specs.Regime.{bank_of}
 use Rattle.tlb.specs.Asks.{Ask, address_of}
-use Rattle.tlb.specs.Lists.{Each}
+use Rattle.tlb.specs.Live.{Each}
 use Rattle.tlb.specs.Model.{Model}
-use Rattle.tlb.specs.Work.{no_work}
+use Rattle.tlb.specs.Translate.{no_work}
 use Rattle.system.specs.declared.{decode.AtForm.AtForm, decode.SysOp.SysOp}
 use Rattle.system.specs.declared.decode.SysOp.TheVariants as Op
 use Rattle.system.specs.declared.decode.Encoding.{Encoding}

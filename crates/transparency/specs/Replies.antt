@@ -7,13 +7,13 @@ use Rattle.tlb.specs.Asks.{Ask, Given, kind_of, address_of, onward}
 use Rattle.tlb.specs.declared.access.Kind.TheVariants as Kind
 use Rattle.system.specs.declared.decode.SysOp.{SysOp}
 use Rattle.system.specs.declared.decode.SysOp.TheVariants as Op
-use Rattle.tlb.specs.Lists.{Each}
+use Rattle.tlb.specs.Live.{Each}
 use Rattle.cpu.specs.Bare.{Bare, fresh_bare, bare_of}
 use Rattle.cpu.specs.Core.{fresh_core}
 use Rattle.cpu.specs.Asks.{placed_from}
-use Rattle.cpu.specs.Ends.{load_end, store_end, store_ram_end, fetch_end, reached_by}
+use Rattle.cpu.specs.Bytes.{load_end, store_end, store_ram_end, fetch_end, reached_by}
 use Rattle.cpu.specs.declared.Core.{Core}
-use Rattle.cpu.specs.Replies.{translation, loading, storing, fetching, reaching}
+use Rattle.cpu.specs.Check.{translation, loading, storing, fetching, reaching}
 use Rattle.cpu.specs.Step.{step_of, ram_after}
 use Rattle.cpu.specs.declared.{call.Call.Call, call.Reply.Reply}
 use Rattle.cpu.specs.declared.call.Call.TheVariants.{Translate, DataPa, FetchPa, Load, Store, Fetch, System}

@@ -9,8 +9,8 @@ use Rattle.system.specs.declared.decode.SysOp.TheVariants as Op
 use Rattle.cpu.specs.Bare.{Bare, bare_of}
 use Rattle.cpu.specs.declared.Core.{Core}
 use Rattle.cpu.specs.Asks.{first_of}
-use Rattle.cpu.specs.Ends.{fetch_end, reached_by}
-use Rattle.cpu.specs.Replies.{translation, fetching, reaching}
+use Rattle.cpu.specs.Bytes.{fetch_end, reached_by}
+use Rattle.cpu.specs.Check.{translation, fetching, reaching}
 use Rattle.cpu.specs.declared.{call.Call.Call}
 use Rattle.cpu.specs.declared.call.Call.TheVariants.{Translate, DataPa, FetchPa, Load, Store, Fetch, System}
 use Rattle.cpu.specs.declared.call.Reply.TheVariants.{Done}

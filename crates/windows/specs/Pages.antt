@@ -5,7 +5,7 @@ use Rattle.sysreg.specs.declared.regs.{Regime.Regime, Control.Control}
 use Rattle.walk.specs.Regime.{bank_of}
 use Rattle.walk.specs.declared.regime.Bank.{Bank}
 use Rattle.tlb.specs.Answers.{Answer}
-use Rattle.tlb.specs.Fresh.{fresh_answer}
+use Rattle.tlb.specs.Translate.{fresh_answer}
 use Rattle.tlb.specs.declared.access.Kind.TheVariants.{Write}
 use Rattle.windows.specs.Window.{window, below}
 use Rattle.windows.specs.declared.{list.Window.Window, pages.PageFault.PageFault}

@@ -1,10 +1,9 @@
 use Rattle.std.specs.Prelude.{refl}
 use Rattle.word.specs.Ram.{word_at, little_endian, bytes_of}
-use Rattle.walk.specs.Size.{pa_size}
-use Rattle.walk.specs.Table.{range_of, params_of, table_next, leaf_permissions, leaf_translation, leaf_result, level_next, descaddr, lookup_next, walk_from}
-use Rattle.walk.specs.Table.{walk_range, table_walk}
-use Rattle.walk.specs.Walk.{walk_of}
-use Rattle.walk.specs.Fetches.{fetches_of, fetches_range, fetches_from}
+use Rattle.walk.specs.Regime.{pa_size}
+use Rattle.walk.specs.Table.{range_of, params_of, table_next, leaf_permissions, leaf_translation, leaf_result, level_next, descaddr, lookup_next}
+use Rattle.walk.specs.Table.{walk_from, walk_range, table_walk}
+use Rattle.walk.specs.Walk.{walk_of, fetches_of, fetches_range, fetches_from}
 use Rattle.call_words.specs.Ops.{data_abort_of, call_exception_of, exception_of, translate_call, flip_call, call_of}
 use Rattle.call_words.specs.Replies.{words_by}
 use Rattle.call_words.specs.Walk.{walk_code, walk_words}
