@@ -701,32 +701,33 @@ uint64_t a72_cluster_get(a72_cluster *cluster, uint64_t core, a72_core *out);
 /* A core is copied in, in the place of that of this number: all that it holds, what is pending too. */
 uint64_t a72_cluster_put(a72_cluster *cluster, uint64_t core, a72_core *from);
 
-/* Each call as it is of a single core, under `The calls`. */
-uint64_t a72_cluster_translate(a72_cluster *cluster, uint64_t core, uint64_t va, uint64_t kind, a72_answer *answer,
-                               uint64_t base, const uint8_t *ram, size_t len);
-uint64_t a72_cluster_data_pa(a72_cluster *cluster, uint64_t core, uint64_t va, a72_answer *answer, uint64_t base,
-                             const uint8_t *ram, size_t len);
-uint64_t a72_cluster_fetch_pa(a72_cluster *cluster, uint64_t core, uint64_t va, a72_answer *answer, uint64_t base,
-                              const uint8_t *ram, size_t len);
-uint64_t a72_cluster_load(a72_cluster *cluster, uint64_t core, uint64_t va, uint64_t size, a72_answer *answer,
-                          uint64_t base, const uint8_t *ram, size_t len);
+/* Each call as it is of a single core, under `The calls`: the cluster and the core's number in front, and what is
+ * written of the answer last. */
+uint64_t a72_cluster_translate(a72_cluster *cluster, uint64_t core, uint64_t va, uint64_t kind, uint64_t base,
+                               const uint8_t *ram, size_t len, a72_answer *answer);
+uint64_t a72_cluster_data_pa(a72_cluster *cluster, uint64_t core, uint64_t va, uint64_t base, const uint8_t *ram,
+                             size_t len, a72_answer *answer);
+uint64_t a72_cluster_fetch_pa(a72_cluster *cluster, uint64_t core, uint64_t va, uint64_t base, const uint8_t *ram,
+                              size_t len, a72_answer *answer);
+uint64_t a72_cluster_load(a72_cluster *cluster, uint64_t core, uint64_t va, uint64_t size, uint64_t base,
+                          const uint8_t *ram, size_t len, a72_answer *answer);
 uint64_t a72_cluster_store(a72_cluster *cluster, uint64_t core, uint64_t va, uint64_t size, uint64_t value,
-                           a72_answer *answer, uint64_t base, uint8_t *ram, size_t len);
-uint64_t a72_cluster_fetch(a72_cluster *cluster, uint64_t core, uint64_t va, a72_answer *answer, uint64_t base,
-                           const uint8_t *ram, size_t len);
+                           uint64_t base, uint8_t *ram, size_t len, a72_answer *answer);
+uint64_t a72_cluster_fetch(a72_cluster *cluster, uint64_t core, uint64_t va, uint64_t base, const uint8_t *ram,
+                           size_t len, a72_answer *answer);
 uint64_t a72_cluster_system(a72_cluster *cluster, uint64_t core, uint64_t op1, uint64_t crn, uint64_t crm,
-                            uint64_t op2, uint64_t rt, a72_answer *answer, uint64_t base, uint8_t *ram, size_t len);
+                            uint64_t op2, uint64_t rt, uint64_t base, uint8_t *ram, size_t len, a72_answer *answer);
 uint64_t a72_cluster_register(a72_cluster *cluster, uint64_t core, uint64_t key, uint64_t value);
 uint64_t a72_cluster_level(a72_cluster *cluster, uint64_t core, uint64_t level);
 uint64_t a72_cluster_mark(a72_cluster *cluster, uint64_t core, uint64_t mark);
 uint64_t a72_cluster_general(a72_cluster *cluster, uint64_t core, uint64_t number, uint64_t value);
 uint64_t a72_cluster_abort(a72_cluster *cluster, uint64_t core, const uint64_t exception[4]);
-uint64_t a72_cluster_census(a72_cluster *cluster, uint64_t core, uint64_t first, uint64_t pages,
-                            uint64_t counts[A72_COUNTS], uint64_t base, const uint8_t *ram, size_t len);
-uint64_t a72_cluster_windows(a72_cluster *cluster, uint64_t core, const uint8_t *list, size_t list_len,
-                             uint64_t out[3], uint64_t base, const uint8_t *ram, size_t len);
+uint64_t a72_cluster_census(a72_cluster *cluster, uint64_t core, uint64_t first, uint64_t pages, uint64_t base,
+                            const uint8_t *ram, size_t len, uint64_t counts[A72_COUNTS]);
+uint64_t a72_cluster_windows(a72_cluster *cluster, uint64_t core, const uint8_t *list, size_t list_len, uint64_t base,
+                             const uint8_t *ram, size_t len, uint64_t out[3]);
 uint64_t a72_cluster_flip(a72_cluster *cluster, uint64_t core, uint64_t va, uint64_t kind, uint64_t user,
-                          uint64_t out[3], uint64_t base, uint8_t *ram, size_t len);
+                          uint64_t base, uint8_t *ram, size_t len, uint64_t out[3]);
 
 /* A72_DONE, also where the operation is refused; A72_NAMES_NOTHING or A72_CHECK_CORE, and nothing is written. */
 uint64_t a72_cluster_step(const uint64_t op[8], a72_cluster *cluster, uint64_t core, uint64_t base, uint8_t *ram,

@@ -14,6 +14,8 @@ $bench time 900 --counts "$work/counts" >"$work/table"
 SIDE=plain ./ir.sh $bench "$work/plain-counts" >/dev/null
 ./links.sh 80 --counts "$work/plain-counts" >"$work/plain-table"
 ./stack.sh "$A72_LIB/lib$A72_NAME.a" >"$work/frames"
+${CC:-cc} -O2 -I../include steps.c "$A72_LIB/lib$A72_NAME.a" -o "$work/steps"
+"$work/steps" >"$work/stepped"
 
 # FIELD of the line of `frames` where it is the greatest: bytes, then the function.
 most() {
@@ -84,9 +86,10 @@ TEXT
     echo
     echo "$(tail -n 1 "$work/table")."
     echo
-    echo "Four cores beside one, in the library: by a hint the number of the core, its place and one test of what is pending come to a call's instructions; a TLBI is carried out four times."
+    echo "Four cores beside one, in the library: by a hint the number of the core, its place and one test of what is pending come to a call's instructions; a TLBI is carried out four times.
+Counted are the instructions of the function alone, by single steps (\`oracle/steps.c\`); a row of the table above has the loop around the call too, which hands over an argument more."
     echo
-    awk -f four.awk "$work/table"
+    awk -f four.awk "$work/table" "$work/stepped"
     echo
     ./plain-section.sh "$work/plain-table"
     echo

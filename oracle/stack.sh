@@ -1,10 +1,13 @@
 #!/bin/sh
 # The stack of each function of a static library: what its frame takes (pushes, the stack pointer's step, the return
-# address), and the deepest chain of calls from it. Needs objdump and awk.
+# address), and the deepest chain of calls from it. A function that two objects have is in two lines. Needs objdump and
+# awk.
 #   stack.sh LIBRARY.a
 set -eu
 objdump -dr --no-show-raw-insn -M intel "$1" | awk '
-/^[0-9a-f]+ <.*>:$/ { name = $2; sub(/^</, "", name); sub(/>:$/, "", name); frame[name] = 8; order[++n] = name; next }
+# Calls stay within an object.
+/: +file format / { object = $1; next }
+/^[0-9a-f]+ <.*>:$/ { name = $2; sub(/^</, "", name); sub(/>:$/, "", name); name = object name; frame[name] = 8; order[++n] = name; next }
 $2 == "push" { if (!ended[name]) frame[name] += 8 }
 # A large frame is taken piece by piece, down to a goal that is computed first.
 $2 == "mov" && $3 ~ /^r[0-9a-z]+,rsp$/ { split($3, part, ","); from = part[1] }
@@ -14,8 +17,8 @@ $2 == "sub" && $3 ~ /^rsp,0x(1000|c00)$/ && goal { frame[name] += goal; goal = 0
 $2 == "sub" && $3 ~ /^rsp,/ { split($3, part, ","); frame[name] += number(part[2]) }
 $2 == "ret" { ended[name] = 1 }
 /R_X86_64_(PLT32|PC32)/ {
-    callee = $3; sub(/[-+]0x[0-9a-f]+$/, "", callee); sub(/^\.text\./, "", callee)
-    calls[name, ++count[name]] = callee
+    callee = $3; sub(/[-+]0x[0-9a-f]+$/, "", callee); sub(/^\.text\.(unlikely\.)?/, "", callee)
+    calls[name, ++count[name]] = object callee
 }
 function number(text,   v, i, c) {
     if (text !~ /^0x/) return text + 0
@@ -28,4 +31,4 @@ function deep(f,   i, d, best) {
     for (i = 1; i <= count[f]; i++) if (calls[f, i] in frame) { d = deep(calls[f, i]); if (d > best) best = d }
     return known[f] = frame[f] + best
 }
-END { for (i = 1; i <= n; i++) printf "%6d %6d %s\n", frame[order[i]], deep(order[i]), order[i] }' | sort -rn
+END { for (i = 1; i <= n; i++) { name = order[i]; sub(/^[a-z_]*\.o:/, "", name); printf "%6d %6d %s\n", frame[order[i]], deep(order[i]), name } }' | sort -rn

@@ -51,7 +51,7 @@ static int same_clusters(void) {
 /* Where core n reads page 0x20. */
 static uint64_t reads_at(uint64_t n) {
     a72_answer answer = {7, 7};
-    uint64_t number = a72_cluster_translate(four, n, AT(SHIFTED), A72_READ, &answer, BASE, ram, LEN);
+    uint64_t number = a72_cluster_translate(four, n, AT(SHIFTED), A72_READ, BASE, ram, LEN, &answer);
     return number == A72_DONE ? answer.value : ~number;
 }
 
@@ -59,7 +59,7 @@ static uint64_t reads_at(uint64_t n) {
 static uint64_t forget(uint64_t n, uint64_t crm) {
     a72_answer answer = {7, 7};
     MUST(a72_cluster_general(four, n, 1, AT(SHIFTED) >> 12) == A72_DONE);
-    return a72_cluster_system(four, n, 0, 8, crm, 1, 1, &answer, BASE, ram, LEN);
+    return a72_cluster_system(four, n, 0, 8, crm, 1, 1, BASE, ram, LEN, &answer);
 }
 
 static void fresh(void) {
@@ -100,19 +100,19 @@ static void number_first(uint64_t n) {
     const uint64_t base = UINT64_MAX, eight = A72_CHECK_CORE;
     a72_core *c = a72_copy(&other, core);
     a72_cluster_copy(&of_copy, four);
-    MUST(a72_cluster_translate(four, n, 0, 9, &answer, base, ram, LEN) == eight);
-    MUST(a72_cluster_data_pa(four, n, 0, &answer, base, ram, LEN) == eight);
-    MUST(a72_cluster_fetch_pa(four, n, 0, &answer, base, ram, LEN) == eight);
-    MUST(a72_cluster_load(four, n, 0, 3, &answer, base, ram, LEN) == eight);
-    MUST(a72_cluster_store(four, n, 0, 3, 0, &answer, base, ram, LEN) == eight);
-    MUST(a72_cluster_fetch(four, n, 0, &answer, base, ram, LEN) == eight);
-    MUST(a72_cluster_system(four, n, 8, 16, 16, 8, 32, &answer, base, ram, LEN) == eight);
+    MUST(a72_cluster_translate(four, n, 0, 9, base, ram, LEN, &answer) == eight);
+    MUST(a72_cluster_data_pa(four, n, 0, base, ram, LEN, &answer) == eight);
+    MUST(a72_cluster_fetch_pa(four, n, 0, base, ram, LEN, &answer) == eight);
+    MUST(a72_cluster_load(four, n, 0, 3, base, ram, LEN, &answer) == eight);
+    MUST(a72_cluster_store(four, n, 0, 3, 0, base, ram, LEN, &answer) == eight);
+    MUST(a72_cluster_fetch(four, n, 0, base, ram, LEN, &answer) == eight);
+    MUST(a72_cluster_system(four, n, 8, 16, 16, 8, 32, base, ram, LEN, &answer) == eight);
     MUST(a72_cluster_register(four, n, 0, 0) == eight && a72_cluster_level(four, n, 4) == eight);
     MUST(a72_cluster_mark(four, n, 2) == eight && a72_cluster_general(four, n, 32, 0) == eight);
     MUST(a72_cluster_abort(four, n, exception) == eight);
-    MUST(a72_cluster_census(four, n, 0, UINT64_MAX, counts, base, ram, LEN) == eight);
-    MUST(a72_cluster_windows(four, n, ram, 1, out, base, ram, LEN) == eight);
-    MUST(a72_cluster_flip(four, n, 0, 9, 2, out, base, ram, LEN) == eight);
+    MUST(a72_cluster_census(four, n, 0, UINT64_MAX, base, ram, LEN, counts) == eight);
+    MUST(a72_cluster_windows(four, n, ram, 1, base, ram, LEN, out) == eight);
+    MUST(a72_cluster_flip(four, n, 0, 9, 2, base, ram, LEN, out) == eight);
     MUST(a72_cluster_step(none, four, n, base, ram, LEN, said_words) == eight);
     MUST(a72_cluster_get(four, n, c) == eight && same(c, core));
     MUST(a72_cluster_put(four, n, c) == eight);
@@ -140,15 +140,15 @@ static void refused_calls(void) {
     a72_answer answer = {7, 7};
     put_a_marked_core();
     a72_cluster_copy(&of_copy, four);
-    MUST(a72_cluster_load(four, 2, AT(0x10), 4, &answer, UINT64_MAX, ram, LEN) == A72_CHECK_WINDOW);
-    MUST(a72_cluster_load(four, 2, AT(0x10), 3, &answer, BASE, ram, LEN) == A72_CHECK_SIZE);
+    MUST(a72_cluster_load(four, 2, AT(0x10), 4, UINT64_MAX, ram, LEN, &answer) == A72_CHECK_WINDOW);
+    MUST(a72_cluster_load(four, 2, AT(0x10), 3, BASE, ram, LEN, &answer) == A72_CHECK_SIZE);
     MUST(a72_cluster_level(four, 2, 4) == A72_CHECK_LEVEL && a72_cluster_register(four, 2, 0, 0) == A72_CHECK_KEY);
     MUST(a72_cluster_mark(four, 2, 2) == A72_NAMES_NOTHING);
-    MUST(a72_cluster_census(four, 2, 0, A72_MOST_PAGES + 1, counts, BASE, ram, LEN) == A72_CHECK_RANGE);
-    MUST(a72_cluster_windows(four, 2, faulting, 1, out, BASE, ram, LEN) == A72_CHECK_LIST && out[0] == 7);
-    MUST(a72_cluster_windows(four, 2, faulting, sizeof faulting, out, BASE, ram, LEN) == A72_PAGE_FAULTS);
+    MUST(a72_cluster_census(four, 2, 0, A72_MOST_PAGES + 1, BASE, ram, LEN, counts) == A72_CHECK_RANGE);
+    MUST(a72_cluster_windows(four, 2, faulting, 1, BASE, ram, LEN, out) == A72_CHECK_LIST && out[0] == 7);
+    MUST(a72_cluster_windows(four, 2, faulting, sizeof faulting, BASE, ram, LEN, out) == A72_PAGE_FAULTS);
     MUST(out[0] == 0 && out[1] == 0 && out[2] == 5);
-    MUST(a72_cluster_system(four, 2, A72_TLBI_ALLE2, 31, &answer, BASE, ram, LEN) == A72_UNIMPLEMENTED);
+    MUST(a72_cluster_system(four, 2, A72_TLBI_ALLE2, 31, BASE, ram, LEN, &answer) == A72_UNIMPLEMENTED);
     MUST(a72_cluster_step(none, four, 2, BASE, ram, LEN, said_words) == A72_NAMES_NOTHING && said_words[0] == 7);
     MUST(a72_cluster_step(missing, four, 2, BASE, ram, LEN, said_words) == A72_DONE);
     MUST(said_words[0] == A72_ANSWER_CHECK && said_words[1] == A72_CHECK_SIZE);
@@ -174,12 +174,12 @@ static void calls_that_hand_on(void) {
     uint64_t counts[A72_COUNTS], out[3], said_words[5];
     a72_answer answer = {7, 7};
     put_a_marked_core();
-    MUST(a72_cluster_load(four, 2, UNMAPPED, 4, &answer, BASE, ram, LEN) == A72_FAULT + 5 && handed_on());
-    MUST(a72_cluster_data_pa(four, 2, UNMAPPED, &answer, BASE, ram, LEN) == A72_FAULT && handed_on());
+    MUST(a72_cluster_load(four, 2, UNMAPPED, 4, BASE, ram, LEN, &answer) == A72_FAULT + 5 && handed_on());
+    MUST(a72_cluster_data_pa(four, 2, UNMAPPED, BASE, ram, LEN, &answer) == A72_FAULT && handed_on());
     MUST(a72_cluster_mark(four, 2, 0) == A72_DONE && handed_on());
-    MUST(a72_cluster_census(four, 2, 0, 1, counts, BASE, ram, LEN) == A72_DONE && handed_on());
-    MUST(a72_cluster_windows(four, 2, none, 2, out, BASE, ram, LEN) == A72_DONE && handed_on());
-    MUST(a72_cluster_flip(four, 2, 0, A72_READ, 0, out, BASE, ram, LEN) == A72_DONE && handed_on());
+    MUST(a72_cluster_census(four, 2, 0, 1, BASE, ram, LEN, counts) == A72_DONE && handed_on());
+    MUST(a72_cluster_windows(four, 2, none, 2, BASE, ram, LEN, out) == A72_DONE && handed_on());
+    MUST(a72_cluster_flip(four, 2, 0, A72_READ, 0, BASE, ram, LEN, out) == A72_DONE && handed_on());
     MUST(a72_cluster_step(load, four, 2, BASE, ram, LEN, said_words) == A72_DONE && handed_on());
     MUST(said_words[0] == A72_ANSWER_DATA_ABORT);
     MUST(a72_cluster_step(look, four, 2, BASE, ram, LEN, said_words) == A72_DONE && handed_on());

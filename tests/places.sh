@@ -51,7 +51,7 @@ awk '$1 == "WORDS" { end = $2; next }
     { last = $2 }' "$work/crates/saved/src/place.rt"
 
 # The memory of a core, and of a cluster: NAME NUMBER. The library proves its parts: the handle, what it is of, and its alignment.
-cat crates/core_static/src/*.rt | sed -n 's/^const _: () = prove!(\(.*\)_of::<\(.*\)>() == \([0-9]*\));$/\1 \2 \3/p' | awk '
+cat crates/core_static/src/*.rt crates/cluster_static/src/*.rt | sed -n 's/^const _: () = prove!(\(.*\)_of::<\(.*\)>() == \([0-9]*\));$/\1 \2 \3/p' | awk '
     { of[$1 " " $2] = $3 }
     END {
         if (of["size Core"] && of["size Handle"]) print "CORE_SIZE", of["size Core"] + of["size Handle"]
@@ -132,9 +132,9 @@ sort "$work/bindings/rust/src/system_operation.rs" | table operation/sorted
 one operation operation/sorted tests/names.txt/operation
 
 # Functions, sorted: NAME, then each parameter as a C type without its name; `-` where nothing is given back.
-awk -f tools/functions.awk crates/core_static/src/*.rt | sort | table crates/core_static/src/all
+awk -f tools/functions.awk crates/core_static/src/*.rt crates/cluster_static/src/*.rt | sort | table crates/exports/all
 sed "s/A72_COUNTS]/$counts]/" $header | awk -f tools/functions.awk | sort | table $header
 awk -f tools/functions.awk bindings/rust-archive/src/library.rs | sort | table bindings/rust-archive/src/library.rs
-for other in $header bindings/rust-archive/src/library.rs; do one function crates/core_static/src/all "$other"; done
+for other in $header bindings/rust-archive/src/library.rs; do one function crates/exports/all "$other"; done
 
 echo "$lines lines are one in all tables"

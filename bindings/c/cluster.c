@@ -36,13 +36,13 @@ static void start(uint64_t core) {
 static void forget(uint64_t crm) {
     a72_answer answer;
     a72_cluster_general(cluster, PANEL, 0, VOICE >> 12);
-    a72_cluster_system(cluster, PANEL, 0, 8, crm, 1, 0, &answer, BASE, ram, LEN);
+    a72_cluster_system(cluster, PANEL, 0, 8, crm, 1, 0, BASE, ram, LEN, &answer);
 }
 
 /* Audio reads its voice; where it faults the guest takes the data abort, on that core. */
 static void play(const char *when) {
     a72_answer answer = {0, 0};
-    uint64_t number = a72_cluster_load(cluster, AUDIO, VOICE, 4, &answer, BASE, ram, LEN);
+    uint64_t number = a72_cluster_load(cluster, AUDIO, VOICE, 4, BASE, ram, LEN, &answer);
     printf("%-22s ", when);
     if (number == A72_DONE)
         printf("sample %" PRIu64, answer.value);
@@ -85,7 +85,7 @@ int main(void) {
     forget(3);
     play("unmapped:");
 
-    printf("core 4: number %" PRIu64 "\n", a72_cluster_load(cluster, 4, VOICE, 4, &answer, BASE, ram, LEN));
+    printf("core 4: number %" PRIu64 "\n", a72_cluster_load(cluster, 4, VOICE, 4, BASE, ram, LEN, &answer));
     for (uint64_t n = 0; n < 4; n++) {
         a72_core *core = a72_init(&apart);
         a72_cluster_get(cluster, n, core);

@@ -176,38 +176,38 @@ extern "C" {
         n: u64,
         va: u64,
         kind: u64,
-        answer: *mut Answer,
         base: u64,
         ram: *const u8,
         len: usize,
+        answer: *mut Answer,
     ) -> u64;
     pub fn a72_cluster_data_pa(
         cluster: *mut ClusterHandle,
         n: u64,
         va: u64,
-        answer: *mut Answer,
         base: u64,
         ram: *const u8,
         len: usize,
+        answer: *mut Answer,
     ) -> u64;
     pub fn a72_cluster_fetch_pa(
         cluster: *mut ClusterHandle,
         n: u64,
         va: u64,
-        answer: *mut Answer,
         base: u64,
         ram: *const u8,
         len: usize,
+        answer: *mut Answer,
     ) -> u64;
     pub fn a72_cluster_load(
         cluster: *mut ClusterHandle,
         n: u64,
         va: u64,
         size: u64,
-        answer: *mut Answer,
         base: u64,
         ram: *const u8,
         len: usize,
+        answer: *mut Answer,
     ) -> u64;
     pub fn a72_cluster_store(
         cluster: *mut ClusterHandle,
@@ -215,19 +215,19 @@ extern "C" {
         va: u64,
         size: u64,
         value: u64,
-        answer: *mut Answer,
         base: u64,
         ram: *mut u8,
         len: usize,
+        answer: *mut Answer,
     ) -> u64;
     pub fn a72_cluster_fetch(
         cluster: *mut ClusterHandle,
         n: u64,
         va: u64,
-        answer: *mut Answer,
         base: u64,
         ram: *const u8,
         len: usize,
+        answer: *mut Answer,
     ) -> u64;
     pub fn a72_cluster_system(
         cluster: *mut ClusterHandle,
@@ -237,10 +237,10 @@ extern "C" {
         crm: u64,
         op2: u64,
         rt: u64,
-        answer: *mut Answer,
         base: u64,
         ram: *mut u8,
         len: usize,
+        answer: *mut Answer,
     ) -> u64;
     pub fn a72_cluster_register(cluster: *mut ClusterHandle, n: u64, key: u64, value: u64) -> u64;
     pub fn a72_cluster_level(cluster: *mut ClusterHandle, n: u64, level: u64) -> u64;
@@ -252,20 +252,20 @@ extern "C" {
         n: u64,
         first: u64,
         pages: u64,
-        counts: *mut [u64; 129],
         base: u64,
         ram: *const u8,
         len: usize,
+        counts: *mut [u64; 129],
     ) -> u64;
     pub fn a72_cluster_windows(
         cluster: *mut ClusterHandle,
         n: u64,
         list: *const u8,
         list_len: usize,
-        out: *mut [u64; 3],
         base: u64,
         ram: *const u8,
         len: usize,
+        out: *mut [u64; 3],
     ) -> u64;
     pub fn a72_cluster_flip(
         cluster: *mut ClusterHandle,
@@ -273,10 +273,10 @@ extern "C" {
         va: u64,
         kind: u64,
         user: u64,
-        out: *mut [u64; 3],
         base: u64,
         ram: *mut u8,
         len: usize,
+        out: *mut [u64; 3],
     ) -> u64;
     pub fn a72_cluster_step(
         op: *const [u64; 8],

@@ -1,5 +1,6 @@
 mod Quiet
 pub mod OnCore
+mod Hint
 mod Looks
 mod Steps
 mod Meaning

@@ -2,11 +2,10 @@
 use Rattle.std.specs.Prelude.{if◌then◌else◌, ◌≡◌, refl, ℕ, Bool, true, false, List, nat_lt, length, slice_set}
 use Rattle.std.proofs.Common.{arith}
 use Rattle.tlb.specs.Tlb.{invalidate_of, flush_of}
-use Rattle.tlb.specs.Work.{no_work}
-use Rattle.cpu.specs.Check.{missed_of}
+use Rattle.tlb.specs.Translate.{no_work}
+use Rattle.cpu.specs.Check.{missed_of, refuses}
 use Rattle.cpu.specs.Core.{fresh_core}
-use Rattle.cpu.specs.Registers.{set_level}
-use Rattle.cpu.specs.Replies.{refuses}
+use Rattle.cpu.specs.System.{set_level}
 use Rattle.cpu.specs.Step.{step_of, run_of}
 use Rattle.cpu.specs.Work.{step_work}
 use Rattle.cpu.specs.declared.{Core.Core, call.Call.Call}

@@ -1,17 +1,16 @@
 -- Every call by eight words keeps its promise; and which numbers and replies refuse.
 use Rattle.std.specs.Prelude.{◌≡◌, refl, ℕ, suc, ◌<◌, ◌≤◌, Bool, true, false, List, nat_lt, ◌&&◌, Result, Ok, Err, get_or}
 use Rattle.std.proofs.Common.{sym, ap, ◌∙◌, arith}
-use Rattle.tlb.specs.Work.{no_work}
+use Rattle.tlb.specs.Translate.{no_work}
 use Rattle.tlb.specs.declared.work.Work.{Work}
-use Rattle.cpu.specs.Check.{core_of, number_of}
-use Rattle.cpu.specs.EveryCallEnds.{Outcome, number, says, outcome_of, Wrote, did, faulted, Ended, is-refused, has-run}
-use Rattle.cpu.specs.EveryCallEnds.{Ran, is-undefined, is-unimplemented, valued, unreached, stopped, wrote-ram}
-use Rattle.cpu.specs.Replies.{refuses}
+use Rattle.cpu.specs.Check.{core_of, number_of, refuses}
+use Rattle.cpu.specs.EveryCallEnds.{Outcome, number, says, outcome_of, Wrote, did, faulted, Ended, is-refused, has-run, Ran, is-undefined}
+use Rattle.cpu.specs.EveryCallEnds.{is-unimplemented, valued, unreached, stopped, wrote-ram}
 use Rattle.cpu.specs.Says.{Said, call, misaligned}
 use Rattle.cpu.specs.Step.{step_of, ram_after}
 use Rattle.cpu.specs.Work.{step_work}
 use Rattle.cpu.specs.declared.{Core.Core, call.Call.Call, call.Reply.Reply, check.Check.Check}
-use Rattle.cpu.proofs.Refusing.{each_call_ends}
+use Rattle.cpu.proofs.EveryCallEnds.{each_call_ends}
 use Rattle.cluster.specs.Cluster.{core_in, four_after, four_reply, four_ram, four_work}
 use Rattle.call_words.specs.Replies.{code_by, words_by, step_words}
 use Rattle.call_words.specs.declared.op.DecodedCall.{DecodedCall}

@@ -1,9 +1,11 @@
 -- A call on one of four cores: what the call on that core alone gives, and what is delivered after it.
-use Rattle.std.specs.Prelude.{if◌then◌else◌, ℕ, Bool, ◌&&◌, nat_lt, is_none, List, slice_set}
+use Rattle.std.specs.Prelude.{if◌then◌else◌, ℕ, Bool, ◌&&◌, nat_lt, is_none, List, slice_set, Option, None, Result}
+use Rattle.tlb.specs.declared.{access.Kind.Kind, access.NoSuchKind.NoSuchKind}
 use Rattle.cpu.specs.declared.Core.{Core}
 use Rattle.cluster.specs.Cluster.{core_in, delivered_of, four_after}
 use Rattle.call_words.specs.declared.op.DecodedCall.{DecodedCall}
 use Rattle.call_words.specs.declared.op.DecodedCall.TheVariants.{Known, Unknown}
+use Rattle.quick.specs.Says.{served}
 use Rattle.core_calls.specs.Named.{call_number, call_value, call_reads, call_ram, call_core}
 
 -- a number that says that a call was refused
@@ -13,6 +15,10 @@ is_refusal n = nat_lt 0 n && nat_lt n 256
 -- one of the four, with nothing pending
 abbrev pub is_quiet : List Core → ℕ → Bool
 is_quiet cs i = nat_lt i 4 && is_none (core_in cs i).tlb.broadcast
+
+-- where the data hint of one of the four sends an access at once, with nothing pending
+abbrev pub served_on : List Core → ℕ → ℕ → ℕ → ℕ → Result Kind NoSuchKind → Option ℕ
+served_on cs i base len va w = if is_quiet cs i then served (core_in cs i) base len va w else None
 
 -- what core i has pending is delivered, unless the number says that its call was refused
 abbrev pub delivered_after : ℕ → List Core → ℕ → List Core

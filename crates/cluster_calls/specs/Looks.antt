@@ -1,8 +1,7 @@
 -- What a call that only looks promises, on the core i of the four cores cs: of the core alone, and what is delivered after it.
 use Rattle.std.specs.Prelude.{◌≡◌, List, ℕ, ◌<◌, ◌≤◌}
 use Rattle.cpu.specs.Bare.{Bare}
-use Rattle.cpu.specs.Inspect.{counts_after}
-use Rattle.cpu.specs.Step.{step_of}
+use Rattle.cpu.specs.Step.{counts_after, step_of}
 use Rattle.cpu.specs.declared.Core.{Core}
 use Rattle.cpu.specs.declared.call.Call.TheVariants.{Census}
 use Rattle.history.specs.Calls.{bare_run}

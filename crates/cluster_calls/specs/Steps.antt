@@ -1,7 +1,7 @@
 -- The calls on four cores are the cluster's steps.
 use Rattle.std.specs.Prelude.{◌≡◌, ℕ, List, length}
 use Rattle.cpu.specs.declared.{Core.Core, call.Call.Call}
-use Rattle.tlb.specs.Work.{no_work}
+use Rattle.tlb.specs.Translate.{no_work}
 use Rattle.cluster.specs.Cluster.{four_after, four_reply, four_ram, four_work}
 use Rattle.call_words.specs.Replies.{code_by, value_by, reads_by}
 use Rattle.call_words.specs.declared.op.DecodedCall.TheVariants.{Known}

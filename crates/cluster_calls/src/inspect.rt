@@ -13,9 +13,9 @@ pub fn census(
     n: u64,
     first: u64,
     pages: u64,
-    counts: &mut [u64; 129],
     base: u64,
     ram: &[u8],
+    counts: &mut [u64; 129],
 ) -> u64
     ensures { ClusterCensus first pages base ram.now cluster.old.cores n result counts.old counts.new
         cluster.new.cores }
@@ -43,9 +43,9 @@ pub fn windows(
     cluster: &mut Cluster,
     n: u64,
     list: &[u8],
-    out: &mut [u64; 3],
     base: u64,
     ram: &[u8],
+    out: &mut [u64; 3],
 ) -> u64
     ensures { ClusterWindows list.now base ram.now cluster.old.cores n result out.old out.new cluster.new.cores }
 {
@@ -67,9 +67,9 @@ pub fn flip(
     va: u64,
     kind: u64,
     user: u64,
-    out: &mut [u64; 3],
     base: u64,
     ram: &mut [u8],
+    out: &mut [u64; 3],
 ) -> u64
     ensures { ClusterFlip va kind user base ram.old cluster.old.cores n result out.old out.new ram.new
         cluster.new.cores }

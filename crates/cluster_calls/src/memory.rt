@@ -1,14 +1,25 @@
 // Translations, loads, stores and fetches. None leaves anything pending where nothing was: so that is asked first, and
 // such a call is that of the core alone.
+ghost use Rattle.std.specs.Prelude.{◌≡◌, length};
 ghost use Rattle.cpu.specs.declared.call.Call.TheVariants as Call;
 ghost use Rattle.call_words.specs.declared.op.DecodedCall.TheVariants as DecodedCall;
 ghost use Rattle.call_words.specs.Ops.{kind_of, translate_call};
+ghost use Rattle.cluster_calls.specs.Four.{served_on};
 ghost use Rattle.cluster_calls.specs.Promise.{ClusterPromise};
 
 use crate::deliver;
 use call_words::reply::Report;
 use cluster::Cluster;
 use cpu::check::{self, Check};
+
+// By the data hint of the core of this number, where it has nothing pending.
+#[inline(always)]
+fn served(cluster: &Cluster, n: u64, va: u64, kind: u64, base: u64, len: u64) -> Option<u64>
+    ensures value { result ≡ served_on cluster.now.cores n base len va (kind_of kind) }
+    ensures four { length cluster.now.cores ≡ 4 }
+{
+    quick::hint::served_among(&cluster.cores[(n % 4) as usize], n, va, kind, base, len)
+}
 
 // The same, by the core's number, and what is pending after it.
 #[cold]
@@ -18,9 +29,9 @@ fn translate_apart(
     n: u64,
     va: u64,
     kind: u64,
-    ans: &mut Report,
     base: u64,
     ram: &[u8],
+    ans: &mut Report,
 ) -> u64
     ensures { ClusterPromise (translate_call (kind_of kind) va) base ram.now cluster.old.cores n result
         ans.old ans.new ram.now cluster.new.cores }
@@ -42,6 +53,28 @@ fn translate_apart(
     }
 }
 
+// What no hint serves. Its arguments are those of the call in their order, so that it is jumped to, and that one jump
+// alone needs the slice: so the slice is looked at behind the hint.
+#[inline(never)]
+fn translate_rest(
+    cluster: &mut Cluster,
+    n: u64,
+    va: u64,
+    kind: u64,
+    base: u64,
+    ram: &[u8],
+    ans: &mut Report,
+) -> u64
+    ensures { ClusterPromise (translate_call (kind_of kind) va) base ram.now cluster.old.cores n result
+        ans.old ans.new ram.now cluster.new.cores }
+{
+    if deliver::is_quiet(cluster, n) {
+        core_calls::memory::translate(&mut cluster.cores[n as usize], va, kind, ans, base, ram)
+    } else {
+        translate_apart(cluster, n, va, kind, base, ram, ans)
+    }
+}
+
 /// The translation of `va` for an access of a kind: 1 read, 2 write, 4 fetch.
 #[inline(always)]
 pub fn translate(
@@ -49,24 +82,22 @@ pub fn translate(
     n: u64,
     va: u64,
     kind: u64,
-    ans: &mut Report,
     base: u64,
     ram: &[u8],
+    ans: &mut Report,
 ) -> u64
     ensures { ClusterPromise (translate_call (kind_of kind) va) base ram.now cluster.old.cores n result
         ans.old ans.new ram.now cluster.new.cores }
 {
-    if deliver::is_quiet(cluster, n) {
-        quick::translation::translate_by_kind(
-            &mut cluster.cores[n as usize],
-            va,
-            kind,
-            ans,
-            base,
-            ram,
-        )
-    } else {
-        translate_apart(cluster, n, va, kind, ans, base, ram)
+    match served(cluster, n, va, kind, base, ram.len() as u64) {
+        Some(pa) => {
+            *ans = Report {
+                value: pa,
+                reads: 0,
+            };
+            0
+        }
+        None => translate_rest(cluster, n, va, kind, base, ram, ans),
     }
 }
 
@@ -77,9 +108,9 @@ fn data_pa_apart(
     cluster: &mut Cluster,
     n: u64,
     va: u64,
-    ans: &mut Report,
     base: u64,
     ram: &[u8],
+    ans: &mut Report,
 ) -> u64
     ensures { ClusterPromise (DecodedCall.Known (Call.DataPa va)) base ram.now cluster.old.cores n result
         ans.old ans.new ram.now cluster.new.cores }
@@ -100,9 +131,9 @@ pub fn data_pa(
     cluster: &mut Cluster,
     n: u64,
     va: u64,
-    ans: &mut Report,
     base: u64,
     ram: &[u8],
+    ans: &mut Report,
 ) -> u64
     ensures { ClusterPromise (DecodedCall.Known (Call.DataPa va)) base ram.now cluster.old.cores n result
         ans.old ans.new ram.now cluster.new.cores }
@@ -110,7 +141,7 @@ pub fn data_pa(
     if deliver::is_quiet(cluster, n) {
         core_calls::memory::data_pa(&mut cluster.cores[n as usize], va, ans, base, ram)
     } else {
-        data_pa_apart(cluster, n, va, ans, base, ram)
+        data_pa_apart(cluster, n, va, base, ram, ans)
     }
 }
 
@@ -121,9 +152,9 @@ fn fetch_pa_apart(
     cluster: &mut Cluster,
     n: u64,
     va: u64,
-    ans: &mut Report,
     base: u64,
     ram: &[u8],
+    ans: &mut Report,
 ) -> u64
     ensures { ClusterPromise (DecodedCall.Known (Call.FetchPa va)) base ram.now cluster.old.cores n result
         ans.old ans.new ram.now cluster.new.cores }
@@ -144,9 +175,9 @@ pub fn fetch_pa(
     cluster: &mut Cluster,
     n: u64,
     va: u64,
-    ans: &mut Report,
     base: u64,
     ram: &[u8],
+    ans: &mut Report,
 ) -> u64
     ensures { ClusterPromise (DecodedCall.Known (Call.FetchPa va)) base ram.now cluster.old.cores n result
         ans.old ans.new ram.now cluster.new.cores }
@@ -154,7 +185,7 @@ pub fn fetch_pa(
     if deliver::is_quiet(cluster, n) {
         core_calls::memory::fetch_pa(&mut cluster.cores[n as usize], va, ans, base, ram)
     } else {
-        fetch_pa_apart(cluster, n, va, ans, base, ram)
+        fetch_pa_apart(cluster, n, va, base, ram, ans)
     }
 }
 
@@ -166,9 +197,9 @@ fn load_apart(
     n: u64,
     va: u64,
     size: u64,
-    ans: &mut Report,
     base: u64,
     ram: &[u8],
+    ans: &mut Report,
 ) -> u64
     ensures { ClusterPromise (DecodedCall.Known (Call.Load va size)) base ram.now cluster.old.cores n result
         ans.old ans.new ram.now cluster.new.cores }
@@ -190,9 +221,9 @@ pub fn load(
     n: u64,
     va: u64,
     size: u64,
-    ans: &mut Report,
     base: u64,
     ram: &[u8],
+    ans: &mut Report,
 ) -> u64
     ensures { ClusterPromise (DecodedCall.Known (Call.Load va size)) base ram.now cluster.old.cores n result
         ans.old ans.new ram.now cluster.new.cores }
@@ -200,7 +231,7 @@ pub fn load(
     if deliver::is_quiet(cluster, n) {
         core_calls::memory::load(&mut cluster.cores[n as usize], va, size, ans, base, ram)
     } else {
-        load_apart(cluster, n, va, size, ans, base, ram)
+        load_apart(cluster, n, va, size, base, ram, ans)
     }
 }
 
@@ -213,9 +244,9 @@ fn store_apart(
     va: u64,
     size: u64,
     value: u64,
-    ans: &mut Report,
     base: u64,
     ram: &mut [u8],
+    ans: &mut Report,
 ) -> u64
     ensures { ClusterPromise (DecodedCall.Known (Call.Store va size value)) base ram.old cluster.old.cores n result
         ans.old ans.new ram.new cluster.new.cores }
@@ -246,9 +277,9 @@ pub fn store(
     va: u64,
     size: u64,
     value: u64,
-    ans: &mut Report,
     base: u64,
     ram: &mut [u8],
+    ans: &mut Report,
 ) -> u64
     ensures { ClusterPromise (DecodedCall.Known (Call.Store va size value)) base ram.old cluster.old.cores n result
         ans.old ans.new ram.new cluster.new.cores }
@@ -264,7 +295,7 @@ pub fn store(
             ram,
         )
     } else {
-        store_apart(cluster, n, va, size, value, ans, base, ram)
+        store_apart(cluster, n, va, size, value, base, ram, ans)
     }
 }
 
@@ -274,9 +305,9 @@ fn fetch_apart(
     cluster: &mut Cluster,
     n: u64,
     va: u64,
-    ans: &mut Report,
     base: u64,
     ram: &[u8],
+    ans: &mut Report,
 ) -> u64
     ensures { ClusterPromise (DecodedCall.Known (Call.Fetch va)) base ram.now cluster.old.cores n result
         ans.old ans.new ram.now cluster.new.cores }
@@ -297,14 +328,14 @@ fn fetch_apart(
 fn fetch_on<const N: u64>(
     cluster: &mut Cluster,
     va: u64,
-    ans: &mut Report,
     base: u64,
     ram: &[u8],
+    ans: &mut Report,
 ) -> u64
     ensures { ClusterPromise (DecodedCall.Known (Call.Fetch va)) base ram.now cluster.old.cores N result
         ans.old ans.new ram.now cluster.new.cores }
 {
-    fetch_apart(cluster, N, va, ans, base, ram)
+    fetch_apart(cluster, N, va, base, ram, ans)
 }
 
 // By the core's number.
@@ -313,21 +344,21 @@ fn fetch_by_core(
     cluster: &mut Cluster,
     n: u64,
     va: u64,
-    ans: &mut Report,
     base: u64,
     ram: &[u8],
+    ans: &mut Report,
 ) -> u64
     ensures { ClusterPromise (DecodedCall.Known (Call.Fetch va)) base ram.now cluster.old.cores n result
         ans.old ans.new ram.now cluster.new.cores }
 {
     if n == 0 {
-        fetch_on::<0>(cluster, va, ans, base, ram)
+        fetch_on::<0>(cluster, va, base, ram, ans)
     } else if n == 1 {
-        fetch_on::<1>(cluster, va, ans, base, ram)
+        fetch_on::<1>(cluster, va, base, ram, ans)
     } else if n == 2 {
-        fetch_on::<2>(cluster, va, ans, base, ram)
+        fetch_on::<2>(cluster, va, base, ram, ans)
     } else if n == 3 {
-        fetch_on::<3>(cluster, va, ans, base, ram)
+        fetch_on::<3>(cluster, va, base, ram, ans)
     } else {
         Check::Core.number() as u64
     }
@@ -335,13 +366,13 @@ fn fetch_by_core(
 
 /// The instruction at `va`.
 #[inline(always)]
-pub fn fetch(cluster: &mut Cluster, n: u64, va: u64, ans: &mut Report, base: u64, ram: &[u8]) -> u64
+pub fn fetch(cluster: &mut Cluster, n: u64, va: u64, base: u64, ram: &[u8], ans: &mut Report) -> u64
     ensures { ClusterPromise (DecodedCall.Known (Call.Fetch va)) base ram.now cluster.old.cores n result
         ans.old ans.new ram.now cluster.new.cores }
 {
     if deliver::is_quiet(cluster, n) {
         core_calls::memory::fetch(&mut cluster.cores[n as usize], va, ans, base, ram)
     } else {
-        fetch_by_core(cluster, n, va, ans, base, ram)
+        fetch_by_core(cluster, n, va, base, ram, ans)
     }
 }

@@ -22,9 +22,9 @@ pub fn system(
     crm: u64,
     op2: u64,
     rt: u64,
-    ans: &mut Report,
     base: u64,
     ram: &mut [u8],
+    ans: &mut Report,
 ) -> u64
     ensures { ClusterPromise (DecodedCall.Known (Call.System (encoding_of op1 crn crm op2 rt))) base ram.old
         cluster.old.cores n result ans.old ans.new ram.new cluster.new.cores }

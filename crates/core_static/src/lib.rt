@@ -3,6 +3,5 @@
 // others see exports nothing, so the exports stand alone here.
 mod calls;
 mod cycles;
-mod four;
 mod parts;
 mod state;

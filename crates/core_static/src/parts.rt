@@ -2,13 +2,12 @@
 ghost use Rattle.std.specs.Prelude.{◌≡◌};
 ghost use Rattle.word.specs.Bits.{flag};
 ghost use Rattle.exception.specs.Pstate.{spsr_of};
-ghost use Rattle.tlb.specs.Tlb.{entry_at, hint_at};
-ghost use Rattle.tlb.specs.Count.{tally_at};
+ghost use Rattle.tlb.specs.Tlb.{entry_at, hint_at, tally_at};
 ghost use Rattle.cpu.specs.Core.{reg_of};
-ghost use Rattle.core_parts.specs.Read.{register_of, number_found, value_found, pending_words, entry_words};
-ghost use Rattle.core_parts.specs.Read.{hint_words, fetch_words};
-ghost use Rattle.core_parts.specs.Put.{number_restamped, restamped};
-ghost use Rattle.core_parts.specs.Put.{with_pc, with_flags, without_pending, inval_named, received, number_received};
+ghost use Rattle.core_parts.specs.Read.{register_of, number_found, value_found, pending_words, entry_words, hint_words};
+ghost use Rattle.core_parts.specs.Read.{fetch_words};
+ghost use Rattle.core_parts.specs.Put.{number_restamped, restamped, with_pc, with_flags, without_pending, inval_named};
+ghost use Rattle.core_parts.specs.Put.{received, number_received};
 
 use core_parts::{put, read};
 use handle::Handle;

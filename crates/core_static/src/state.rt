@@ -1,18 +1,15 @@
-// A core, and a cluster, in memory that the caller gives; and a core's words.
+// A core in memory that the caller gives; and its words.
 ghost use Rattle.std.specs.Prelude.{◌≡◌};
 ghost use Rattle.std.specs.Borrow.{full_share};
 ghost use Rattle.std.specs.Ptr.{lies_at, room_at};
 ghost use types.Logic.{sem};
 ghost use Rattle.cpu.specs.Core.{fresh_core};
 ghost use Rattle.cpu.specs.contracts.Core.{the_row as core_row};
-ghost use Rattle.cluster.specs.Cluster.{fresh_cluster};
-ghost use Rattle.cluster.specs.contracts.Cluster.{the_row as cluster_row};
 ghost use Rattle.saved.specs.CoreOf.{core_of};
 ghost use Rattle.saved.specs.WordsOf.{word_of, words_of, held};
 
-use cluster::Cluster;
 use cpu::Core;
-use handle::{ClusterHandle, Handle};
+use handle::Handle;
 use saved::place::Saved;
 
 // What the header says of a core's memory: the handle, then the core that it names.
@@ -22,13 +19,6 @@ const _: () = prove!(size_of::<Core>() == 41736);
 
 const _: () = prove!(align_of::<Core>() == 8);
 
-// And of a cluster's: the handle, then the four cores.
-const _: () = prove!(size_of::<ClusterHandle>() == 8);
-
-const _: () = prove!(size_of::<Cluster>() == 166944);
-
-const _: () = prove!(align_of::<Cluster>() == 8);
-
 /// Memory for a core becomes one after reset.
 #[unsafe(no_mangle)]
 pub unsafe extern "C" fn a72_init_at(at: *mut Core)
@@ -36,15 +26,6 @@ pub unsafe extern "C" fn a72_init_at(at: *mut Core)
     ensures* { sem 𝓛 (lies_at core_row full_share at fresh_core) }
 {
     *at = Core::new();
-}
-
-/// Memory for a cluster becomes four cores after reset.
-#[unsafe(no_mangle)]
-pub unsafe extern "C" fn a72_cluster_init_at(at: *mut Cluster)
-    requires* { sem 𝓛 (room_at cluster_row at) }
-    ensures* { sem 𝓛 (lies_at cluster_row full_share at (record { cores = fresh_cluster })) }
-{
-    *at = Cluster::new();
 }
 
 /// The core becomes the one that these words hold, whatever they are.

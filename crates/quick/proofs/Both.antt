@@ -1,16 +1,15 @@
 -- Split accesses whose two parts lie in RAM, on plain values, for `search`.
-use Rattle.std.proofs.Common.{rules, ◌≡◌, ℕ, zero, suc, ◌+◌, ◌-◌, ◌*◌, ◌/◌, ◌^◌, ◌<◌, ◌≤◌, Bool, true, false, ◌&&◌, ltb, List, length}
+use Rattle.std.proofs.Common.{rules, ◌≡◌, ℕ, zero, suc, ◌+◌, ◌-◌, ◌*◌, ◌/◌, ◌^◌, ◌<◌, ◌≤◌, Bool, true, false, ◌&&◌, ltb, List, length, sym, refl, ap}
+use Rattle.std.proofs.Common.{◌∙◌, mod-eq_of_lt, suc-add, pow-suc, zero-add, arith, take-append-drop, pow-add, shr-shr, ltb-false, ltb-true, le-ltb}
+use Rattle.std.proofs.Common.{lt-ltb, le-leb}
 use Rattle.std.specs.Prelude.{Some, Ok}
-use Rattle.std.proofs.Common.{sym, refl, ap, ◌∙◌, mod-eq_of_lt, suc-add, pow-suc, zero-add, arith, take-append-drop, pow-add, shr-shr, ltb-false, ltb-true, le-ltb, lt-ltb, le-leb}
 use Rattle.word.specs.Ram.{within, written, stored, bytes_of}
 use Rattle.word.proofs.RamLaws.{digit-next, written_next}
-use Rattle.cpu.specs.Place.{byte_at, first_outside, verdict_of, Lie}
-use Rattle.cpu.specs.Bytes.{split_stored, load_of, store_ram}
-use Rattle.cpu.proofs.BytesLaws.{stored-length}
+use Rattle.cpu.specs.Bytes.{byte_at, first_outside, verdict_of, Lie, split_stored, load_of, store_ram}
+use Rattle.cpu.proofs.BytesLaws.{stored-length, fits-base, fits-end, split-value}
 use Rattle.quick.specs.AtOnce.{both_inside, both_at, both_stored, pair_at}
 use Rattle.cpu.specs.declared.place.Pages.{Pages}
 use Rattle.cpu.specs.declared.place.Place.TheVariants.{Split}
-use Rattle.cpu.proofs.Moves.{fits-base, fits-end, split-value}
 
 value-is : (a b : ℕ) → Some a ≡ Some b → a ≡ b
 value-is a b e = cc

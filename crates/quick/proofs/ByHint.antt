@@ -2,16 +2,13 @@
 use Rattle.std.proofs.Common.{arith, refl, sym, ap, ◌∙◌, subst}
 use Rattle.std.specs.Prelude.{if◌then◌else◌, ◌≡◌, Bool, true, ℕ, Option, Some, None, Ok}
 use Rattle.tlb.specs.Answers.{Answer}
-use Rattle.tlb.specs.Translate.{hint_in}
+use Rattle.tlb.specs.Translate.{hint_in, no_work}
 use Rattle.tlb.specs.declared.{access.Kind.Kind}
 use Rattle.cpu.specs.Core.{after_access}
-use Rattle.cpu.specs.Hand.{HandedNow, NeedsWalkNow}
-use Rattle.cpu.specs.Memory.{stepped_now, translate_of, past_hint_of}
-use Rattle.cpu.specs.Translations.{translate_in, past_hint_step}
+use Rattle.cpu.specs.Memory.{HandedNow, NeedsWalkNow, stepped_now, translate_of, past_hint_of, translate_in, past_hint_step}
 use Rattle.cpu.specs.declared.Core.{Core}
 use Rattle.cpu.specs.declared.call.Reply.{Reply}
 use Rattle.cpu.specs.Work.{past_hint_work, translate_work}
-use Rattle.tlb.specs.Work.{no_work}
 use Rattle.tlb.specs.declared.work.Work.{Work}
 use Rattle.call_words.specs.Replies.{code_by, value_by, reads_by}
 use Rattle.call_words.specs.declared.reply.Report.{Report}

@@ -13,10 +13,10 @@ use Rattle.cpu.specs.declared.call.Reply.TheVariants.{Refused}
 use Rattle.cpu.specs.System.{sys_of, sys_ram}
 use Rattle.system.specs.declared.decode.Encoding.{Encoding}
 use Rattle.cpu.specs.declared.call.Call.TheVariants.{Translate, DataPa, FetchPa, Load, Store, Fetch, System}
-use Rattle.cpu.specs.Step.{Stepped, after_load, after_store, load_by, store_by, store_ram_by}
-use Rattle.cpu.specs.Step.{ends, refused_or, missed_by, run_of, ram_of, step_of, ram_after}
+use Rattle.cpu.specs.Step.{Stepped, after_load, after_store, load_by, store_by, store_ram_by, ends, refused_or, missed_by, run_of, ram_of, step_of}
+use Rattle.cpu.specs.Step.{ram_after}
 use Rattle.cpu.specs.Work.{translate_work, fetch_work, read_work, write_work, sys_work, load_work_by, store_work_by, run_work, step_work}
-use Rattle.tlb.specs.Work.{no_work}
+use Rattle.tlb.specs.Translate.{no_work}
 use Rattle.tlb.specs.declared.work.Work.{Work}
 use Rattle.call_words.specs.declared.reply.Report.{Report}
 use Rattle.quick.specs.Says.{Tells, ram_checked, asked_run, fetch_run}

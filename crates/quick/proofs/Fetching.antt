@@ -5,20 +5,16 @@ use Rattle.word.specs.Ram.{word_at}
 use Rattle.fault.specs.declared.Fault.{Fault}
 use Rattle.exception.specs.Abort.{insn_abort_at}
 use Rattle.tlb.specs.Answers.{Answer}
-use Rattle.tlb.specs.Hint.{fetch_found}
-use Rattle.tlb.specs.Translate.{access_of, miss_in, hint_left as data_hint_left, fetch_left}
+use Rattle.tlb.specs.Tlb.{fetch_found}
+use Rattle.tlb.specs.Translate.{access_of, miss_in, hint_left as data_hint_left, fetch_left, no_work}
 use Rattle.tlb.specs.Model.{Access}
 use Rattle.tlb.specs.declared.access.Kind.TheVariants.{Fetch}
 use Rattle.tlb.specs.declared.Tlb.{Tlb}
-use Rattle.cpu.specs.Core.{after_access, bank_now}
-use Rattle.cpu.specs.Memory.{with_tlb, fetch_stepped_now, past_hint_of, translate_fetch_of, fetch_of, fetch_pa_of}
-use Rattle.cpu.specs.Translations.{past_hint_step, translate_fetch_in}
-use Rattle.cpu.specs.Results.{Translated, Fetched}
+use Rattle.cpu.specs.Core.{after_access, bank_now, Answered}
+use Rattle.cpu.specs.Memory.{with_tlb, fetch_stepped_now, past_hint_of, translate_fetch_of, fetch_of, fetch_pa_of, past_hint_step, translate_fetch_in}
 use Rattle.cpu.specs.declared.Core.{Core}
-use Rattle.cpu.specs.Bytes.{insn_of}
-use Rattle.cpu.specs.Ends.{external, fetch_end, fetched_from}
+use Rattle.cpu.specs.Bytes.{insn_of, external, fetch_end, fetched_from, FetchAnswer}
 use Rattle.cpu.specs.Work.{past_hint_work, fetch_work}
-use Rattle.tlb.specs.Work.{no_work}
 use Rattle.tlb.specs.declared.work.Work.{Work}
 use Rattle.call_words.specs.declared.reply.Report.{Report}
 use Rattle.quick.proofs.ByHint.{Past}
@@ -39,7 +35,7 @@ module _ (c : Core) (memory : ℕ → Option ℕ) (va : ℕ) where
   unfolding translate_fetch_of fetch_stepped_now translate_fetch_in after_access fetch_work
   fetch-serves pa k h e = record { moved = sym (rw h refl); read = e ∙ sym (rw h refl) }
 
-  abbrev left : Translated → Translated
+  abbrev left : Answered Answer → Answered Answer
   left t = record { core = hint_left t.core va t.answer; answer = t.answer }
 
   -- a fetch leaves no data hint
@@ -63,7 +59,7 @@ module _ (c : Core) (memory : ℕ → Option ℕ) (va : ℕ) where
 -- THE ENDS OF A FETCH
 
 module _ (d : Core) (base : ℕ) (ram : List ℕ) (va : ℕ) where
-  abbrev by : Answer → Fetched
+  abbrev by : Answer → Answered FetchAnswer
   by x = fetched_of d x base ram va
 
   pub end-fault : (f : Fault) (x : Answer) → x ≡ Err f → record { core = d; answer = Err (insn_abort_at va f) } ≡ by x
@@ -71,7 +67,7 @@ module _ (d : Core) (base : ℕ) (ram : List ℕ) (va : ℕ) where
   end-fault f x e = ap by (sym e)
 
   module _ (x : Answer) (pa : ℕ) (e : x ≡ Ok pa) (w : Option ℕ) (ew : w ≡ insn_of base ram pa) where
-    abbrev from_ram : Option ℕ → Fetched
+    abbrev from_ram : Option ℕ → Answered FetchAnswer
     from_ram i = record { core = after_access d d.tlb d.last_pa (fetched_from pa i d.abort_pa va).abort_pa; answer = (fetched_from pa i d.abort_pa va).answer }
 
     pub end-insn : (v : ℕ) → w ≡ Some v → record { core = d; answer = Ok v } ≡ by x
@@ -88,11 +84,11 @@ module _ (c : Core) (base : ℕ) (ram : List ℕ) (va : ℕ) (e : Core) (x : Ans
   module _ (by_translation : FetchMoved c (word_at base ram 8) va e x k) where
     fetched-is : fetched_of e x base ram va ≡ fetch_of c base ram va
     unfolding fetch_of translate_fetch_of after_access
-    fetched-is = ap (λ (t : Translated). fetched_of t.core t.answer base ram va) by_translation.moved
+    fetched-is = ap (λ (t : Answered Answer). fetched_of t.core t.answer base ram va) by_translation.moved
 
     reached-is : reached_of e x ≡ fetch_pa_of c (word_at base ram 8) va
     unfolding fetch_pa_of translate_fetch_of
-    reached-is = ap (λ (t : Translated). reached_of t.core t.answer) by_translation.moved
+    reached-is = ap (λ (t : Answered Answer). reached_of t.core t.answer) by_translation.moved
 
     pub told : (insn : Bool) (old : Report) (n : ℕ) (new : Report) (f : Core) → Tells (fetch_ended insn e x base ram va) k old n new f
         → Tells (fetch_run insn c base ram va) (fetch_work c (word_at base ram 8) va no_work) old n new f

@@ -8,4 +8,4 @@ mod Fetching
 mod Checks
 mod Setting
 mod Line
-mod Hinting
+pub mod Hinting

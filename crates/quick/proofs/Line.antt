@@ -5,24 +5,22 @@ use Rattle.std.proofs.lemmas.Nat.{or_mod, or_block}
 use Rattle.std.specs.Int.Bits.{or_zero_l, or_zero_r}
 use Rattle.word.specs.Ram.{within, word_at, stored}
 use Rattle.tlb.specs.Access.{may_hint}
-use Rattle.tlb.specs.Tlb.{hint_at}
-use Rattle.tlb.specs.Hint.{on_page, data_slot, hint_key, hint_found}
-use Rattle.tlb.specs.Translate.{hint_in}
+use Rattle.tlb.specs.Tlb.{hint_at, on_page, data_slot, hint_key, hint_found}
+use Rattle.tlb.specs.Translate.{hint_in, no_work}
 use Rattle.tlb.specs.declared.access.Kind.TheVariants.{Write}
 use Rattle.cpu.specs.declared.Core.{Core}
-use Rattle.cpu.proofs.ZeroLine.{zero-steady, write-steady}
-use Rattle.cpu.proofs.ZeroLaws.{one-ram, store_va, store-va}
+use Rattle.cpu.proofs.ZeroLaws.{zero-steady, write-steady, one-ram, store_va, store-va}
 use Rattle.cpu.proofs.BytesLaws.{stored-length}
 use Rattle.cpu.specs.Memory.{write_of, ram_after_write}
-use Rattle.cpu.specs.Results.{Translated}
+use Rattle.cpu.specs.Core.{Answered}
 use Rattle.cpu.specs.System.{done_with, on_stored}
 use Rattle.cpu.specs.Work.{write_work, zero_work}
-use Rattle.tlb.specs.Work.{no_work}
 use Rattle.word.specs.Bits.{wrap}
 use Rattle.word.proofs.RamLaws.{within_low, within-high}
 use Rattle.quick.specs.Says.{Cleared}
 use Rattle.quick.proofs.ByHint.{address, chosen, hint-serves, hint-moves}
 use Rattle.quick.proofs.Works.{one-reads}
+use Rattle.tlb.specs.Answers.{Answer}
 
 -- a frame whose address of a line's first byte is a line's: it adds up with each byte of it
 or-line : (p v i : ℕ) → v % 64 ≡ 0 → bit_or p v % 64 ≡ 0 → i < 64 → bit_or p (v + i) ≡ bit_or p v + i
@@ -55,7 +53,7 @@ module _ (base : ℕ) (c : Core) where
       let e : va % 8 ≡ 0 = even 0 (omega arith) in
       let inside : within base (length ram) 8 pa ≡ true = rw (le-leb base pa low, le-leb (pa + 8) (base + length ram) (omega arith)) refl in
       let w : write_of c base ram va 8 ≡ done_with c = write-steady c base ram va pa e t inside in
-      let r : ram_after_write c base ram va 8 0 ≡ stored base ram 8 pa 0 = one-ram c base ram va e pa (ap (λ (x : Translated). x.answer) t) in
+      let r : ram_after_write c base ram va 8 0 ≡ stored base ram 8 pa 0 = one-ram c base ram va e pa (ap (λ (x : Answered Answer). x.answer) t) in
       let k : no_work ≡ write_work c base ram va 8 no_work = one-reads c (word_at base ram 8) va 8 Write (omega arith) no_work (hint-moves c (word_at base ram 8) va Write pa no_work here refl).read in
       let l = stored-length base ram 8 pa 0 in
       let ih = reads-none n (stored base ram 8 pa 0) (wrap (va + 8)) (pa + 8) (λ j i. even (suc j) (omega arith)) (omega arith) (omega arith)

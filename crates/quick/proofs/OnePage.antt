@@ -7,22 +7,16 @@ use Rattle.sysreg.specs.Regs.{regime_of}
 use Rattle.tlb.specs.Answers.{Answer}
 use Rattle.tlb.specs.declared.access.Kind.TheVariants.{Read}
 use Rattle.fault.specs.declared.Fault.{Fault}
-use Rattle.cpu.specs.Core.{after_access, bank_now}
-use Rattle.cpu.specs.Memory.{stepped_now, located_now, translate_of, loaded_by, read_of}
-use Rattle.cpu.specs.Translations.{located_of}
-use Rattle.cpu.specs.Results.{Translated, Loaded}
+use Rattle.cpu.specs.Core.{after_access, bank_now, Answered}
+use Rattle.cpu.specs.Memory.{stepped_now, located_now, translate_of, loaded_by, read_of, located_of}
 use Rattle.cpu.specs.declared.Core.{Core}
-use Rattle.cpu.specs.Answers.{Got}
-use Rattle.cpu.specs.Place.{in_page, next_page, crosses, goes_on, placed_one}
-use Rattle.cpu.specs.Ends.{data_abort, external, load_end, loaded_from}
+use Rattle.cpu.specs.Bytes.{Got, in_page, next_page, crosses, goes_on, placed_one, data_abort, external, load_end, loaded_from, load_of, LoadAnswer}
 use Rattle.cpu.specs.declared.place.Place.TheVariants.{Whole, Split}
-use Rattle.cpu.proofs.Moves.{whole-value, whole-abort}
+use Rattle.cpu.proofs.BytesLaws.{whole-value, whole-abort}
 use Rattle.cpu.specs.Step.{after_load}
 use Rattle.quick.specs.Says.{Tells, ended_of}
-use Rattle.tlb.specs.Translate.{hint_in}
-use Rattle.cpu.specs.Bytes.{load_of}
+use Rattle.tlb.specs.Translate.{hint_in, no_work}
 use Rattle.cpu.specs.Work.{read_work}
-use Rattle.tlb.specs.Work.{no_work}
 use Rattle.tlb.specs.declared.work.Work.{Work}
 use Rattle.call_words.specs.declared.reply.Report.{Report}
 use Rattle.quick.proofs.ByHint.{Moved, hint-serves}
@@ -32,7 +26,7 @@ module _ (c : Core) (base : ℕ) (ram : List ℕ) (va n : ℕ) (near : n ≤ in_
   pub stays_in : (a : Answer) → goes_on a (crosses (stage1_on (bank_now c) (regime_of c.privilege.level)) va n) ≡ false
   stays_in a = grind arith
 
-  abbrev ended : Translated → Loaded
+  abbrev ended : Answered Answer → Answered LoadAnswer
   ended t = loaded_by t.core t.core.tlb (load_end (placed_one va t.answer) t.core.last_pa t.core.abort_pa base ram va n)
 
   read_one : read_of c base ram va n ≡ ended (translate_of c (word_at base ram 8) va Read)
@@ -45,7 +39,7 @@ module _ (c : Core) (base : ℕ) (ram : List ℕ) (va n : ℕ) (near : n ≤ in_
 
 -- the ends
 module _ (d : Core) (base : ℕ) (ram : List ℕ) (va n : ℕ) where
-  abbrev by : Answer → Loaded
+  abbrev by : Answer → Answered LoadAnswer
   by x = ended_of d x base ram va n
 
   pub end-fault : (f : Fault) (a : Answer) → a ≡ Err f → record { core = d; answer = Err (data_abort va false f) } ≡ by a
@@ -53,7 +47,7 @@ module _ (d : Core) (base : ℕ) (ram : List ℕ) (va n : ℕ) where
   end-fault f a e = ap by (sym e)
 
   module _ (a : Answer) (pa : ℕ) (e : a ≡ Ok pa) (w : Option ℕ) (ew : w ≡ word_at base ram n pa) where
-    abbrev from_ram : Got → Loaded
+    abbrev from_ram : Got → Answered LoadAnswer
     from_ram g = loaded_by d d.tlb (loaded_from (Whole pa) g d.abort_pa va)
 
     pub end-value : (v : ℕ) → w ≡ Some v → record { core = record d { last_pa = pa }; answer = Ok v } ≡ by a

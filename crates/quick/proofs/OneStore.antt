@@ -5,26 +5,20 @@ use Rattle.word.specs.Ram.{word_at, within, stored}
 use Rattle.walk.specs.Regime.{stage1_on}
 use Rattle.sysreg.specs.Regs.{regime_of}
 use Rattle.tlb.specs.Answers.{Answer}
-use Rattle.tlb.specs.Translate.{hint_in}
+use Rattle.tlb.specs.Translate.{hint_in, no_work}
 use Rattle.tlb.specs.declared.access.Kind.TheVariants.{Write}
 use Rattle.fault.specs.declared.Fault.{Fault}
-use Rattle.cpu.specs.Core.{after_access, bank_now}
-use Rattle.cpu.specs.Memory.{stepped_now, located_now, translate_of, stored_by, write_of, ram_after_write}
-use Rattle.cpu.specs.Translations.{located_of}
-use Rattle.cpu.specs.Results.{Translated, Stored}
+use Rattle.cpu.specs.Core.{after_access, bank_now, Answered}
+use Rattle.cpu.specs.Memory.{stepped_now, located_now, translate_of, ended_by, write_of, ram_after_write, located_of}
 use Rattle.cpu.specs.declared.Core.{Core}
-use Rattle.cpu.specs.Answers.{Verdict}
-use Rattle.cpu.specs.Place.{in_page, next_page, crosses}
-use Rattle.cpu.specs.Bytes.{store_ram}
+use Rattle.cpu.specs.Bytes.{Verdict, in_page, next_page, crosses, store_ram, data_abort, external, store_end, store_end_by, store_ram_end, StoreAnswer}
 use Rattle.quick.specs.AtOnce.{both_inside, both_stored}
-use Rattle.cpu.specs.Ends.{data_abort, external, store_end, store_end_by, store_ram_end}
 use Rattle.cpu.specs.declared.place.Pages.{Pages}
-use Rattle.cpu.proofs.Moves.{whole-inside, whole-outside}
+use Rattle.cpu.proofs.BytesLaws.{whole-inside, whole-outside}
 use Rattle.quick.proofs.Both.{both-judged, both-stores}
 use Rattle.cpu.specs.Step.{after_store}
 use Rattle.quick.specs.Says.{Tells, PutTwo, stored_of, put_of}
 use Rattle.cpu.specs.Work.{write_work}
-use Rattle.tlb.specs.Work.{no_work}
 use Rattle.tlb.specs.declared.work.Work.{Work}
 use Rattle.call_words.specs.declared.reply.Report.{Report}
 use Rattle.quick.proofs.ByHint.{Moved, hint-serves}
@@ -32,7 +26,7 @@ use Rattle.quick.proofs.Works.{one-reads, two-read-none}
 use Rattle.quick.proofs.OnePage.{stays_in}
 
 module _ (c : Core) (base : ℕ) (ram : List ℕ) (va n : ℕ) (near : n ≤ in_page va) where
-  abbrev moved : Translated
+  abbrev moved : Answered Answer
   moved = translate_of c (word_at base ram 8) va Write
 
   write_one : write_of c base ram va n ≡ stored_of moved.core moved.answer base ram va n
@@ -45,21 +39,21 @@ module _ (c : Core) (base : ℕ) (ram : List ℕ) (va n : ℕ) (near : n ≤ in_
 
   module _ (d : Core) (a : Answer) (et : record { core = d; answer = a } ≡ translate_of c (word_at base ram 8) va Write) where
     pub stored-is : stored_of d a base ram va n ≡ write_of c base ram va n
-    stored-is = ap (λ (t : Translated). stored_of t.core t.answer base ram va n) et ∙ sym write_one
+    stored-is = ap (λ (t : Answered Answer). stored_of t.core t.answer base ram va n) et ∙ sym write_one
 
     pub put-is : (v : ℕ) → put_of a base ram va n v ≡ ram_after_write c base ram va n v
-    put-is v = ap (λ (t : Translated). put_of t.answer base ram va n v) et ∙ sym (put_one v)
+    put-is v = ap (λ (t : Answered Answer). put_of t.answer base ram va n v) et ∙ sym (put_one v)
 
 -- the ends
 module _ (d : Core) (base : ℕ) (ram : List ℕ) (va n : ℕ) where
-  abbrev by : Answer → Stored
+  abbrev by : Answer → Answered StoreAnswer
   by x = stored_of d x base ram va n
 
   abbrev put : ℕ → Answer → List ℕ
   put v x = put_of x base ram va n v
 
-  abbrev judged : Verdict → Stored
-  judged x = stored_by d d.tlb (store_end_by x d.abort_pa va)
+  abbrev judged : Verdict → Answered StoreAnswer
+  judged x = ended_by d d.tlb (store_end_by x d.abort_pa va)
 
   module _ (f : Fault) (a : Answer) (e : a ≡ Err f) where
     pub end-fault : record { core = d; answer = Err (data_abort va true f) } ≡ by a

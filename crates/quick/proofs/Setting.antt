@@ -6,12 +6,11 @@ use Rattle.sysreg.specs.Encoding.{register_at}
 use Rattle.sysreg.specs.declared.regs.Register.{Register as Kept}
 use Rattle.sysreg.proofs.WriteLaws.{write-nothing}
 use Rattle.sysreg.specs.declared.write.WriteError.TheVariants.{NoRegister}
-use Rattle.cpu.specs.Core.{set_reg}
+use Rattle.cpu.specs.Core.{set_reg, Answered}
 use Rattle.exception.specs.declared.kind.Exception.{Exception}
 use Rattle.cpu.specs.declared.Core.{Core}
-use Rattle.cpu.specs.Registers.{after_register_write, set_level, set_mark, abort_of, Registered}
-use Rattle.cpu.specs.Check.{missed_of, first_of, kept, number_of}
-use Rattle.cpu.specs.Replies.{registering}
+use Rattle.cpu.specs.System.{after_register_write, set_level, set_mark, abort_of}
+use Rattle.cpu.specs.Check.{missed_of, first_of, kept, number_of, registering}
 use Rattle.cpu.specs.declared.check.Check.{Check}
 use Rattle.cpu.specs.declared.call.Call.{Call}
 use Rattle.cpu.specs.declared.call.Call.TheVariants.{Register, Level, General, Abort}
@@ -19,7 +18,7 @@ use Rattle.cpu.specs.declared.call.Reply.{Reply}
 use Rattle.cpu.specs.declared.call.Reply.TheVariants.{Refused, Done}
 use Rattle.cpu.specs.Step.{step_of, run_of, after_write}
 use Rattle.cpu.specs.Work.{run_work, step_work}
-use Rattle.tlb.specs.Work.{no_work}
+use Rattle.tlb.specs.Translate.{no_work}
 use Rattle.call_words.specs.Replies.{code_by, value_by, reads_by}
 use Rattle.call_words.specs.Ops.{mark_call}
 use Rattle.call_words.specs.declared.op.DecodedCall.{DecodedCall}
@@ -84,9 +83,9 @@ module _ (c : Core) (k key v : ℕ) (ek : k ≡ key) where
       go : (f : Option Kept) → register_at k ≡ f → Sets (Known (Register key v)) c n d
       go (Some r) e = register-set d a n (rw (low, e) refl) ew en
       go None e =
-          let p : ◌≡◌ {A = Registered} (record { core = d; answer = a }) (record { core = c; answer = Err NoRegister }) = ew ∙ nothing e in
-          let m : n ≡ 6 = en ∙ ap (λ (x : Registered). code_by (registering x.answer)) p in
-          becomes _ c n d c (ap (λ (x : Registered). x.core) p) (register-refused Check.Key n (rw (low, e) refl) m)
+          let p : ◌≡◌ {A = Answered WriteAnswer} (record { core = d; answer = a }) (record { core = c; answer = Err NoRegister }) = ew ∙ nothing e in
+          let m : n ≡ 6 = en ∙ ap (λ (x : Answered WriteAnswer). code_by (registering x.answer)) p in
+          becomes _ c n d c (ap (λ (x : Answered WriteAnswer). x.core) p) (register-refused Check.Key n (rw (low, e) refl) m)
 
 -- SETTINGS
 

@@ -1,12 +1,10 @@
 -- What an access reads: of one page its translation's descriptors, of two pages by their hints none.
-use Rattle.std.proofs.Common.{rules}
-use Rattle.std.proofs.Common.{arith}
+use Rattle.std.proofs.Common.{rules, arith}
 use Rattle.std.specs.Prelude.{◌≡◌, ◌≤◌, Bool, true, false, ◌&&◌, ℕ, Option, Some}
-use Rattle.tlb.specs.Translate.{hint_in}
-use Rattle.tlb.specs.Work.{no_work}
+use Rattle.tlb.specs.Translate.{hint_in, no_work}
 use Rattle.tlb.specs.declared.{access.Kind.Kind, work.Work.Work}
-use Rattle.cpu.specs.OpLaws.{on_now}
-use Rattle.cpu.specs.Place.{in_page, next_page, crosses}
+use Rattle.cpu.specs.Asks.{on_now}
+use Rattle.cpu.specs.Bytes.{in_page, next_page, crosses}
 use Rattle.cpu.specs.Work.{translate_work, access_work}
 use Rattle.cpu.specs.declared.Core.{Core}
 

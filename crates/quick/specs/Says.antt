@@ -1,23 +1,20 @@
 -- What a call on a core says: its number, its report, and the core that it leaves.
-use Rattle.std.specs.Prelude.{if◌then◌else◌, ◌≡◌, ◌-◌, ◌^◌, ◌<◌, ◌≤◌, ◌&&◌, nat_le, Bool, true, false, List, ℕ, length, Option, Some, None, Result, Ok, Err}
+use Rattle.std.specs.Prelude.{if◌then◌else◌, ◌≡◌, ◌-◌, ◌^◌, ◌<◌, ◌≤◌, ◌&&◌, nat_le, nat_lt, is_none, Bool, true, false, List, ℕ, length, Option, Some, None, Result, Ok, Err}
 use Rattle.cpu.specs.declared.Core.{Core}
 use Rattle.word.specs.Ram.{word_at}
-use Rattle.cpu.specs.Memory.{with_tlb, loaded_by, read_of, stored_by, write_of, ram_after_write, fetched_by, fetch_of, fetch_pa_of}
-use Rattle.cpu.specs.Results.{Translated, Loaded, Stored, Fetched, Addressed}
+use Rattle.cpu.specs.Memory.{with_tlb, loaded_by, read_of, ended_by, write_of, ram_after_write, fetch_of, fetch_pa_of}
+use Rattle.cpu.specs.Core.{Answered}
 use Rattle.tlb.specs.Answers.{Answer}
-use Rattle.tlb.specs.Hint.{fetch_found}
-use Rattle.tlb.specs.Translate.{fetch_left, hint_in}
-use Rattle.cpu.specs.Place.{placed_one}
-use Rattle.cpu.specs.Ends.{load_end, store_end, store_ram_end, fetch_end, reached_by}
+use Rattle.tlb.specs.Tlb.{fetch_found}
+use Rattle.tlb.specs.Translate.{fetch_left, hint_in, no_work}
+use Rattle.cpu.specs.Bytes.{placed_one, load_end, store_end, store_ram_end, fetch_end, reached_by, FetchAnswer, LoadAnswer, StoreAnswer}
 use Rattle.tlb.specs.declared.{access.Kind.Kind, access.NoSuchKind.NoSuchKind, hint.FetchHint.FetchHint}
 use Rattle.cpu.specs.System.{done_with, zero_of, zero_ram}
-use Rattle.cpu.specs.Check.{first_of, ram_rows}
-use Rattle.cpu.specs.Replies.{translation, reaching}
+use Rattle.cpu.specs.Check.{first_of, ram_rows, translation, reaching}
 use Rattle.cpu.specs.declared.call.Reply.{Reply}
 use Rattle.cpu.specs.declared.call.Reply.TheVariants.{Refused}
 use Rattle.cpu.specs.Step.{Stepped, ends, refused_or, step_of, after_fetch, after_address}
 use Rattle.cpu.specs.Work.{read_work, write_work, zero_work, step_work}
-use Rattle.tlb.specs.Work.{no_work}
 use Rattle.tlb.specs.declared.work.Work.{Work}
 use Rattle.call_words.specs.Replies.{code_by, value_by, reads_by}
 use Rattle.call_words.specs.declared.reply.Report.{Report}
@@ -58,7 +55,7 @@ abbrev pub asked_reply : Bool → ℕ → Answer → Reply
 asked_reply true va a = translation va a
 asked_reply false va a = reaching (reached_by a)
 
-abbrev pub asked_run : Bool → ℕ → Translated → Stepped
+abbrev pub asked_run : Bool → ℕ → Answered Answer → Stepped
 asked_run tells va t = ends t.core (asked_reply tells va t.answer)
 
 -- AT ONCE BY A HINT: at a known level, with a window that ends at the last address or before
@@ -70,6 +67,10 @@ abbrev pub served : Core → ℕ → ℕ → ℕ → Result Kind NoSuchKind → 
 served c base len va (Ok k) = if plain c base len then hint_in c.privilege va k c.tlb else None
 served c base len va (Err e) = None
 
+-- the same of a core by its number among four, with nothing pending
+abbrev pub served_among : Core → ℕ → ℕ → ℕ → ℕ → Result Kind NoSuchKind → Option ℕ
+served_among c n base len va w = if nat_lt n 4 && is_none c.tlb.broadcast then served c base len va w else None
+
 -- the fetch hint, or one of a page that is no address's
 abbrev pub fetch_hint_of : Option FetchHint → FetchHint
 fetch_hint_of (Some f) = f
@@ -80,19 +81,19 @@ fetch_served c base len va = if plain c base len then fetch_found c.tlb.fetch c.
 
 -- AN ACCESS OF ONE PAGE, on the core that its translation left
 
-abbrev pub ended_of : Core → Answer → ℕ → List ℕ → ℕ → ℕ → Loaded
+abbrev pub ended_of : Core → Answer → ℕ → List ℕ → ℕ → ℕ → Answered LoadAnswer
 ended_of d a base ram va n = loaded_by d d.tlb (load_end (placed_one va a) d.last_pa d.abort_pa base ram va n)
 
-abbrev pub stored_of : Core → Answer → ℕ → List ℕ → ℕ → ℕ → Stored
-stored_of d a base ram va n = stored_by d d.tlb (store_end (placed_one va a) d.abort_pa base ram va n)
+abbrev pub stored_of : Core → Answer → ℕ → List ℕ → ℕ → ℕ → Answered StoreAnswer
+stored_of d a base ram va n = ended_by d d.tlb (store_end (placed_one va a) d.abort_pa base ram va n)
 
 abbrev pub put_of : Answer → ℕ → List ℕ → ℕ → ℕ → ℕ → List ℕ
 put_of a base ram va n v = store_ram_end (placed_one va a) base ram n v
 
-abbrev pub fetched_of : Core → Answer → ℕ → List ℕ → ℕ → Fetched
-fetched_of d a base ram va = fetched_by d d.tlb (fetch_end a d.abort_pa base ram va)
+abbrev pub fetched_of : Core → Answer → ℕ → List ℕ → ℕ → Answered FetchAnswer
+fetched_of d a base ram va = ended_by d d.tlb (fetch_end a d.abort_pa base ram va)
 
-abbrev pub reached_of : Core → Answer → Addressed
+abbrev pub reached_of : Core → Answer → Answered (Option ℕ)
 reached_of d a = record { core = d; answer = reached_by a }
 
 -- a fetch, or where one goes: its operation, and its end by the answer of its translation

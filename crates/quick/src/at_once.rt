@@ -1,7 +1,6 @@
 // The bytes of an access over two pages, both parts of which lie in RAM by one test.
 ghost use Rattle.std.specs.Prelude.{◌≡◌, ◌≤◌, length};
-ghost use Rattle.cpu.specs.Place.{Lie};
-ghost use Rattle.cpu.specs.Bytes.{split_value};
+ghost use Rattle.cpu.specs.Bytes.{Lie, split_value};
 ghost use Rattle.quick.specs.AtOnce.{both_inside, both_at, both_stored, pair_at};
 
 use cpu::place::Pages;

@@ -2,15 +2,14 @@
 // was read. Both are one text: INSN says whether the instruction is read.
 ghost use Rattle.std.specs.Prelude.{◌≡◌, true, false, length, None};
 ghost use Rattle.word.specs.Ram.{word_at};
-ghost use Rattle.tlb.specs.Hint.{fetch_found};
-ghost use Rattle.tlb.specs.Work.{no_work};
+ghost use Rattle.tlb.specs.Tlb.{fetch_found};
+ghost use Rattle.tlb.specs.Translate.{no_work};
 ghost use Rattle.tlb.specs.declared.access.Kind.TheVariants.{Fetch};
 ghost use Rattle.cpu.specs.declared.call.Call.TheVariants as Call;
-ghost use Rattle.cpu.specs.Hand.{NeedsWalkNow};
+ghost use Rattle.cpu.specs.Memory.{NeedsWalkNow};
 ghost use Rattle.cpu.specs.Step.{step_of, after_fetch};
 ghost use Rattle.cpu.specs.Work.{fetch_work, step_work};
-ghost use Rattle.quick.specs.Says.{Tells, fetched_of, hint_left, ram_checked, fetch_run, fetch_ended};
-ghost use Rattle.quick.specs.Says.{fetch_served};
+ghost use Rattle.quick.specs.Says.{Tells, fetched_of, hint_left, ram_checked, fetch_run, fetch_ended, fetch_served};
 
 use crate::{hint, translation};
 use call_words::reply::Report;

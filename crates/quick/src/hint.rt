@@ -1,9 +1,11 @@
 // Where a hint sends an access at once. Kind, level, mark, window and key are one condition, so that few jumps are
 // taken, and what only the rest of a call needs is laid out there.
-ghost use Rattle.std.specs.Prelude.{◌≡◌, ◌<◌};
+ghost use Rattle.std.specs.Prelude.{◌≡◌, ◌+◌, ◌*◌, ◌/◌, ◌%◌, ◌<◌};
+ghost use Rattle.tlb.specs.Tlb.{data_slot};
 ghost use Rattle.tlb.specs.Tlb.{hint_at};
+ghost use Rattle.tlb.specs.declared.access.Kind.TheVariants.{Read};
 ghost use Rattle.call_words.specs.Ops.{kind_of};
-ghost use Rattle.quick.specs.Says.{served, fetch_served, fetch_hint_of};
+ghost use Rattle.quick.specs.Says.{served, served_among, fetch_served, fetch_hint_of};
 
 use cpu::Core;
 use tlb::access::Kind;
@@ -29,6 +31,34 @@ pub(crate) fn served(core: &Core, va: u64, kind: u64, base: u64, len: u64) -> Op
     let found = hint_at(core, slot);
     let serves = ((kind == 1) | (kind == 2))
         & ((found.key == va - va % 4096 + asker) & ((asker <= 3) & (base <= u64::MAX - len)));
+    serves.then_some(hint::on_page(found.pa, va))
+}
+
+// A data hint's place by a kind's number, 1 read or 2 write: the page is folded as it stands in the address, and its
+// bits are cut once, with the kind's above them.
+#[inline(always)]
+fn place(va: u64, kind: u64) -> usize
+    ensures value { result ≡ data_slot va Read + kind / 2 % 2 * 256 }
+    ensures upper_bound { result < 512 }
+{
+    let folded = va ^ (va >> 5) ^ (va >> 10);
+    ((folded % 1048576 + kind / 2 % 2 * 1048576) / 4096) as usize
+}
+
+/// The same for the core of a number among four: nothing, too, where it has something pending, or the number is of no
+/// core. One condition here too, and fewer words in it, so that what is asked more costs little: the number is looked
+/// at with the level.
+#[inline(always)]
+pub fn served_among(core: &Core, n: u64, va: u64, kind: u64, base: u64, len: u64) -> Option<u64>
+    ensures { result ≡ served_among core.now n base len va (kind_of kind) }
+{
+    let mark = core.privilege.unprivileged as u64;
+    let asker = core.privilege.level as u64 + mark * 256;
+    let found = hint_at(core, place(va, kind));
+    let serves = core.tlb.broadcast.is_none()
+        & (((kind == 1) | (kind == 2))
+            & ((found.key == va - va % 4096 + asker)
+                & (((asker | n) <= 3) & (base <= u64::MAX - len))));
     serves.then_some(hint::on_page(found.pa, va))
 }
 

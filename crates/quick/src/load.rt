@@ -1,13 +1,11 @@
 // A load on a core that is lent: its number, and in ans its value and what it read.
 ghost use Rattle.std.specs.Prelude.{◌≡◌, ◌≤◌, None};
 ghost use Rattle.word.specs.Ram.{word_at, bytes_in};
-ghost use Rattle.tlb.specs.Translate.{hint_in};
-ghost use Rattle.tlb.specs.Work.{no_work};
+ghost use Rattle.tlb.specs.Translate.{hint_in, no_work};
 ghost use Rattle.tlb.specs.declared.access.Kind.TheVariants.{Read};
-ghost use Rattle.cpu.specs.Place.{in_page};
+ghost use Rattle.cpu.specs.Bytes.{in_page};
 ghost use Rattle.cpu.specs.declared.call.Call.TheVariants as Call;
-ghost use Rattle.cpu.specs.Hand.{NeedsWalkNow};
-ghost use Rattle.cpu.specs.Memory.{read_of};
+ghost use Rattle.cpu.specs.Memory.{NeedsWalkNow, read_of};
 ghost use Rattle.cpu.specs.Step.{step_of, after_load};
 ghost use Rattle.cpu.specs.Work.{read_work, step_work};
 ghost use Rattle.quick.specs.Says.{Tells, ended_of};

@@ -1,13 +1,11 @@
 // A store on a core that is lent: its number, RAM, and in ans the address of a data abort and what it read.
 ghost use Rattle.std.specs.Prelude.{◌≡◌, ◌≤◌, None};
 ghost use Rattle.word.specs.Ram.{word_at, bytes_in};
-ghost use Rattle.tlb.specs.Translate.{hint_in};
-ghost use Rattle.tlb.specs.Work.{no_work};
+ghost use Rattle.tlb.specs.Translate.{hint_in, no_work};
 ghost use Rattle.tlb.specs.declared.access.Kind.TheVariants.{Write};
-ghost use Rattle.cpu.specs.Place.{in_page};
+ghost use Rattle.cpu.specs.Bytes.{in_page};
 ghost use Rattle.cpu.specs.declared.call.Call.TheVariants as Call;
-ghost use Rattle.cpu.specs.Hand.{NeedsWalkNow};
-ghost use Rattle.cpu.specs.Memory.{write_of, ram_after_write};
+ghost use Rattle.cpu.specs.Memory.{NeedsWalkNow, write_of, ram_after_write};
 ghost use Rattle.cpu.specs.Step.{step_of, ram_after, after_store};
 ghost use Rattle.cpu.specs.Work.{write_work, step_work};
 ghost use Rattle.quick.specs.Says.{Tells, stored_of, put_of};

@@ -1,7 +1,7 @@
 // A system operation on a core that is lent: its number, RAM, and in ans the address of a data abort and what it read.
 ghost use Rattle.std.specs.Prelude.{◌≡◌, ◌+◌, ◌%◌, ◌^◌, ◌≤◌};
 ghost use Rattle.word.specs.Bits.{align_down};
-ghost use Rattle.tlb.specs.Work.{no_work};
+ghost use Rattle.tlb.specs.Translate.{no_work};
 ghost use Rattle.cpu.specs.System.{tlbi_core, zero_of, zero_ram, sys_of, sys_ram};
 ghost use Rattle.cpu.specs.declared.call.Call.TheVariants as Call;
 ghost use Rattle.call_words.specs.Ops.{encoding_of};

@@ -2,16 +2,14 @@
 // read. Both are one text: TELLS says whether a fault is told by its status, or as no more than that.
 ghost use Rattle.std.specs.Prelude.{◌≡◌, ℕ, length, None, Ok};
 ghost use Rattle.word.specs.Ram.{word_at};
-ghost use Rattle.tlb.specs.Translate.{hint_in};
-ghost use Rattle.tlb.specs.Work.{no_work};
-ghost use Rattle.cpu.specs.Ends.{reached_by};
-ghost use Rattle.cpu.specs.Replies.{reaching};
+ghost use Rattle.tlb.specs.Translate.{hint_in, no_work};
+ghost use Rattle.cpu.specs.Bytes.{reached_by};
+ghost use Rattle.cpu.specs.Check.{reaching};
 ghost use Rattle.cpu.specs.declared.call.Call.TheVariants as Call;
 ghost use Rattle.tlb.specs.declared.access.Kind.TheVariants.{Read};
 ghost use Rattle.call_words.specs.Ops.{kind_of, translate_call};
 ghost use Rattle.call_words.specs.Replies.{code_by, value_by, reads_by};
-ghost use Rattle.cpu.specs.Hand.{NeedsWalkNow};
-ghost use Rattle.cpu.specs.Memory.{translate_of};
+ghost use Rattle.cpu.specs.Memory.{NeedsWalkNow, translate_of};
 ghost use Rattle.cpu.specs.Step.{step_of};
 ghost use Rattle.cpu.specs.Work.{translate_work, step_work};
 ghost use Rattle.quick.specs.Says.{Says, Tells, asked_reply, asked_run, ram_checked, served};
@@ -206,43 +204,6 @@ fn kind_asked(core: &mut Core, va: u64, kind: u64, ans: &mut Report, base: u64, 
     }
 }
 
-#[inline(never)]
-fn address_apart<P: Purpose>(
-    core: &mut Core,
-    va: u64,
-    ans: &mut Report,
-    base: u64,
-    ram: &[u8],
-) -> u64
-    requires not_served { served core.old base (length ram.now) va (Ok P.KIND) ≡ None }
-    ensures { Tells (step_of core.old base ram.now (Call.Translate P.KIND va))
-        (step_work core.old base ram.now (Call.Translate P.KIND va) no_work) ans.old result ans.new core.new }
-{
-    address::<P>(core, va, ans, base, ram)
-}
-
-// By kind, with six words to hand on.
-#[inline(always)]
-#[tactic(auto, unfolding(call_words::specs::Ops::translate_call))]
-fn by_kind(core: &mut Core, va: u64, kind: u64, ans: &mut Report, base: u64, ram: &[u8]) -> u64
-    requires not_served { served core.old base (length ram.now) va (kind_of kind) ≡ None }
-    ensures { Says (translate_call (kind_of kind) va) core.old base ram.now ans.old result ans.new core.new }
-{
-    if kind < 2 {
-        if kind == 1 {
-            address_apart::<Reading>(core, va, ans, base, ram)
-        } else {
-            64
-        }
-    } else if kind == 2 {
-        address_apart::<Writing>(core, va, ans, base, ram)
-    } else if kind == 4 {
-        address_apart::<Fetching>(core, va, ans, base, ram)
-    } else {
-        64
-    }
-}
-
 /// The translation of va for an access of a kind: 1 read, 2 write, 4 fetch.
 #[inline(always)]
 #[tactic(auto, unfolding(call_words::specs::Ops::translate_call))]
@@ -265,30 +226,5 @@ pub fn translate(
             0
         }
         None => kind_asked(core, va, kind, ans, base, ram),
-    }
-}
-
-/// The same for a caller whose arguments come in another order: what no hint serves is told by kind in line.
-#[inline(always)]
-#[tactic(auto, unfolding(call_words::specs::Ops::translate_call))]
-pub fn translate_by_kind(
-    core: &mut Core,
-    va: u64,
-    kind: u64,
-    ans: &mut Report,
-    base: u64,
-    ram: &[u8],
-) -> u64
-    ensures { Says (translate_call (kind_of kind) va) core.old base ram.now ans.old result ans.new core.new }
-{
-    match hint::served(core, va, kind, base, ram.len() as u64) {
-        Some(pa) => {
-            *ans = Report {
-                value: pa,
-                reads: 0,
-            };
-            0
-        }
-        None => by_kind(core, va, kind, ans, base, ram),
     }
 }

@@ -17,7 +17,7 @@ pub fn translate(
     let (mut answer, at, len) = (Answer::default(), ram.as_ptr(), ram.len());
     // Sound: a cluster, a slice with its own length, and a local answer.
     let number =
-        unsafe { library::a72_cluster_translate(cluster.handle(), n, va, kind, &mut answer, base, at, len) };
+        unsafe { library::a72_cluster_translate(cluster.handle(), n, va, kind, base, at, len, &mut answer) };
     (number, answer)
 }
 
@@ -28,7 +28,7 @@ macro_rules! at_an_address {
         pub fn $name(cluster: &mut HeldCluster, n: u64, va: u64, base: u64, ram: &[u8]) -> (u64, Answer) {
             let (mut answer, at, len) = (Answer::default(), ram.as_ptr(), ram.len());
             // Sound: a cluster, a slice with its own length, and a local answer.
-            let number = unsafe { library::$function(cluster.handle(), n, va, &mut answer, base, at, len) };
+            let number = unsafe { library::$function(cluster.handle(), n, va, base, at, len, &mut answer) };
             (number, answer)
         })*
     };
@@ -45,7 +45,7 @@ pub fn load(cluster: &mut HeldCluster, n: u64, va: u64, size: u64, base: u64, ra
     let (mut answer, at, len) = (Answer::default(), ram.as_ptr(), ram.len());
     // Sound: a cluster, a slice with its own length, and a local answer.
     let number =
-        unsafe { library::a72_cluster_load(cluster.handle(), n, va, size, &mut answer, base, at, len) };
+        unsafe { library::a72_cluster_load(cluster.handle(), n, va, size, base, at, len, &mut answer) };
     (number, answer)
 }
 
@@ -62,7 +62,7 @@ pub fn store(
     let (mut answer, at, len) = (Answer::default(), ram.as_mut_ptr(), ram.len());
     // Sound: a cluster, a slice borrowed exclusively with its own length, and a local answer.
     let number = unsafe {
-        library::a72_cluster_store(cluster.handle(), n, va, size, value, &mut answer, base, at, len)
+        library::a72_cluster_store(cluster.handle(), n, va, size, value, base, at, len, &mut answer)
     };
     (number, answer)
 }
@@ -81,7 +81,7 @@ pub fn system(
     let handle = cluster.handle();
     // Sound: a cluster, a slice borrowed exclusively with its own length, and a local answer.
     let number =
-        unsafe { library::a72_cluster_system(handle, n, op1, crn, crm, op2, rt, &mut answer, base, at, len) };
+        unsafe { library::a72_cluster_system(handle, n, op1, crn, crm, op2, rt, base, at, len, &mut answer) };
     (number, answer)
 }
 
@@ -96,7 +96,7 @@ pub fn census(
     let (mut counts, at, len) = ([0; COUNTS], ram.as_ptr(), ram.len());
     // Sound: a cluster, a slice with its own length, and a local array.
     let number =
-        unsafe { library::a72_cluster_census(cluster.handle(), n, first, pages, &mut counts, base, at, len) };
+        unsafe { library::a72_cluster_census(cluster.handle(), n, first, pages, base, at, len, &mut counts) };
     (number, counts)
 }
 
@@ -106,7 +106,7 @@ pub fn windows(cluster: &mut HeldCluster, n: u64, list: &[u8], base: u64, ram: &
     let (list, list_len) = (list.as_ptr(), list.len());
     // Sound: a cluster, slices with their own lengths, and a local array.
     let number =
-        unsafe { library::a72_cluster_windows(cluster.handle(), n, list, list_len, &mut out, base, at, len) };
+        unsafe { library::a72_cluster_windows(cluster.handle(), n, list, list_len, base, at, len, &mut out) };
     (number, out)
 }
 
@@ -123,7 +123,7 @@ pub fn flip(
     let (mut out, at, len) = ([0; 3], ram.as_mut_ptr(), ram.len());
     // Sound: a cluster, a slice borrowed exclusively with its own length, and a local array.
     let number =
-        unsafe { library::a72_cluster_flip(cluster.handle(), n, va, kind, user, &mut out, base, at, len) };
+        unsafe { library::a72_cluster_flip(cluster.handle(), n, va, kind, user, base, at, len, &mut out) };
     (number, out)
 }
 

@@ -21,21 +21,21 @@ impl Looks for OneOf<'_> {
     fn count(&self, first: u64, pages: u64, counts: &mut Counts, base: u64, ram: &[u8]) -> u64 {
         let (at, len) = (ram.as_ptr(), ram.len());
         // Sound: each pointer is that of a cluster, an array or a slice, with its own length; the counts are borrowed exclusively.
-        unsafe { a72_cluster_census(self.0.handle(), self.1, first, pages, counts, base, at, len) }
+        unsafe { a72_cluster_census(self.0.handle(), self.1, first, pages, base, at, len, counts) }
     }
 
     #[inline(always)]
     fn windows_into(&self, list: &[u8], out: &mut [u64; 3], base: u64, ram: &[u8]) -> u64 {
         let (list, list_len, at, len) = (list.as_ptr(), list.len(), ram.as_ptr(), ram.len());
         // Sound: each pointer is that of a cluster, an array or a slice, with its own length; `out` is borrowed exclusively.
-        unsafe { a72_cluster_windows(self.0.handle(), self.1, list, list_len, out, base, at, len) }
+        unsafe { a72_cluster_windows(self.0.handle(), self.1, list, list_len, base, at, len, out) }
     }
 
     #[inline(always)]
     fn flip_into(&self, va: u64, kind: u64, user: u64, out: &mut [u64; 3], base: u64, ram: &mut [u8]) -> u64 {
         let (at, len) = (ram.as_mut_ptr(), ram.len());
         // Sound: each pointer is that of a cluster, an array or a slice, with its own length; both are borrowed exclusively.
-        unsafe { a72_cluster_flip(self.0.handle(), self.1, va, kind, user, out, base, at, len) }
+        unsafe { a72_cluster_flip(self.0.handle(), self.1, va, kind, user, base, at, len, out) }
     }
 
     fn unnamed(&self) -> u64 {
@@ -102,45 +102,45 @@ mod each {
         fn translate(&mut self, va: u64, kind: u64, ans: &mut Answer) -> u64 {
             let (ram, n) = (&*self.ram, self.n);
             unsafe {
-                a72_cluster_translate(self.cluster, n, va, kind, ans, self.base, ram.as_ptr(), ram.len())
+                a72_cluster_translate(self.cluster, n, va, kind, self.base, ram.as_ptr(), ram.len(), ans)
             }
         }
 
         #[inline(always)]
         fn data_pa(&mut self, va: u64, ans: &mut Answer) -> u64 {
             let (ram, n) = (&*self.ram, self.n);
-            unsafe { a72_cluster_data_pa(self.cluster, n, va, ans, self.base, ram.as_ptr(), ram.len()) }
+            unsafe { a72_cluster_data_pa(self.cluster, n, va, self.base, ram.as_ptr(), ram.len(), ans) }
         }
 
         #[inline(always)]
         fn fetch_pa(&mut self, va: u64, ans: &mut Answer) -> u64 {
             let (ram, n) = (&*self.ram, self.n);
-            unsafe { a72_cluster_fetch_pa(self.cluster, n, va, ans, self.base, ram.as_ptr(), ram.len()) }
+            unsafe { a72_cluster_fetch_pa(self.cluster, n, va, self.base, ram.as_ptr(), ram.len(), ans) }
         }
 
         #[inline(always)]
         fn load(&mut self, va: u64, size: u64, ans: &mut Answer) -> u64 {
             let (ram, n) = (&*self.ram, self.n);
-            unsafe { a72_cluster_load(self.cluster, n, va, size, ans, self.base, ram.as_ptr(), ram.len()) }
+            unsafe { a72_cluster_load(self.cluster, n, va, size, self.base, ram.as_ptr(), ram.len(), ans) }
         }
 
         #[inline(always)]
         fn store(&mut self, va: u64, size: u64, value: u64, ans: &mut Answer) -> u64 {
             let (at, len, n) = (self.ram.as_mut_ptr(), self.ram.len(), self.n);
-            unsafe { a72_cluster_store(self.cluster, n, va, size, value, ans, self.base, at, len) }
+            unsafe { a72_cluster_store(self.cluster, n, va, size, value, self.base, at, len, ans) }
         }
 
         #[inline(always)]
         fn fetch(&mut self, va: u64, ans: &mut Answer) -> u64 {
             let (ram, n) = (&*self.ram, self.n);
-            unsafe { a72_cluster_fetch(self.cluster, n, va, ans, self.base, ram.as_ptr(), ram.len()) }
+            unsafe { a72_cluster_fetch(self.cluster, n, va, self.base, ram.as_ptr(), ram.len(), ans) }
         }
 
         #[inline(always)]
         fn system(&mut self, fields: [u64; 5], ans: &mut Answer) -> u64 {
             let [op1, crn, crm, op2, rt] = fields;
             let (at, len, n) = (self.ram.as_mut_ptr(), self.ram.len(), self.n);
-            unsafe { a72_cluster_system(self.cluster, n, op1, crn, crm, op2, rt, ans, self.base, at, len) }
+            unsafe { a72_cluster_system(self.cluster, n, op1, crn, crm, op2, rt, self.base, at, len, ans) }
         }
 
         #[inline(always)]

@@ -1,11 +1,7 @@
 use Rattle.std.proofs.Common.{rules}
 use Rattle.call_words.specs.Ops.{kind_of}
-use Rattle.core_calls.proofs.Said.{translation-said}
-use Rattle.cluster_calls.proofs.OnCore.{quiet-core}
-use Rattle.cluster_calls.proofs.Quiet.{translate-quiet}
+use Rattle.cluster_calls.proofs.Hint.{by-hint}
 use Rattle.cluster_calls.proofs.memory.translate.Goals as goal
 
-pub returns-then-is_quiet : goal.returns-then-is_quiet
-returns-then-is_quiet c =
-    quiet-core _ _ _ _ c.args.n _ (search rules) (translate-quiet (kind_of c.args.kind) c.args.va) _ c.is_quiet.ensures (search rules) _ _ _ _ _
-    (translation-said (kind_of c.args.kind) _ _ _ _ _ _ _ _ c.translate_by_kind.ensures)
+pub returns-in-Some : goal.returns-in-Some
+returns-in-Some c = by-hint _ c.args.n c.args.base _ c.args.va (kind_of c.args.kind) c.served.ensures.four (search rules) c.in-Some.pa _ (search rules)

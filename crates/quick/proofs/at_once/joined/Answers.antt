@@ -1,5 +1,5 @@
 use Rattle.std.proofs.Common.{rules}
-use Rattle.cpu.proofs.Moves.{sum-starts, sum-none, sum-mul, sum-add, sum-on, sum-next}
+use Rattle.cpu.proofs.BytesLaws.{sum-starts, sum-none, sum-mul, sum-add, sum-on, sum-next}
 use Rattle.quick.proofs.at_once.joined.Goals as goal
 
 pub loop-i-init : goal.loop-i-init

@@ -6,7 +6,7 @@ use Rattle.cpu.specs.declared.call.Reply.TheVariants.{Value}
 use Rattle.cpu.specs.Memory.{read_of}
 use Rattle.cpu.specs.Step.{after_load}
 use Rattle.cpu.specs.Work.{read_work}
-use Rattle.tlb.specs.Work.{no_work}
+use Rattle.tlb.specs.Translate.{no_work}
 use Rattle.quick.specs.Says.{Tells, OfTwo}
 use Rattle.quick.proofs.ByHint.{tells}
 use Rattle.quick.proofs.Checks.{loaded, clear-sized, known}

@@ -2,7 +2,7 @@ use Rattle.std.specs.Prelude.{Err}
 use Rattle.std.proofs.Common.{refl, sym, ap, ◌∙◌, arith}
 use Rattle.sysreg.specs.Write.{WriteAnswer}
 use Rattle.sysreg.specs.declared.write.WriteError.{WriteError}
-use Rattle.cpu.specs.Replies.{registering}
+use Rattle.cpu.specs.Check.{registering}
 use Rattle.call_words.specs.Replies.{code_by}
 use Rattle.quick.proofs.Setting.{register-high, register-written}
 use Rattle.quick.proofs.settings.register.Goals as goal

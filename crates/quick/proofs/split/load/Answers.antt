@@ -5,7 +5,7 @@ use Rattle.sysreg.specs.Regs.{regime_of}
 use Rattle.tlb.specs.Translate.{hint_in}
 use Rattle.tlb.specs.declared.access.Kind.TheVariants.{Read}
 use Rattle.cpu.specs.Core.{bank_now}
-use Rattle.cpu.specs.Place.{in_page, next_page, crosses}
+use Rattle.cpu.specs.Bytes.{in_page, next_page, crosses}
 use Rattle.quick.specs.AtOnce.{both_at}
 use Rattle.quick.proofs.Both.{both-loads}
 use Rattle.quick.proofs.Hinting.{plainly}

@@ -6,7 +6,7 @@ use Rattle.cpu.specs.declared.call.Reply.TheVariants.{Done}
 use Rattle.cpu.specs.Memory.{write_of, ram_after_write}
 use Rattle.cpu.specs.Step.{after_store}
 use Rattle.cpu.specs.Work.{write_work}
-use Rattle.tlb.specs.Work.{no_work}
+use Rattle.tlb.specs.Translate.{no_work}
 use Rattle.quick.specs.Says.{Tells, PutTwo}
 use Rattle.quick.proofs.ByHint.{tells}
 use Rattle.quick.proofs.Checks.{stored, stored-ram, clear-sized, known}

@@ -121,10 +121,10 @@ pub unsafe fn a72_cluster_census(
     n: u64,
     first: u64,
     pages: u64,
-    counts: *mut Counts,
     base: u64,
     ram: *const u8,
     ram_bytes: usize,
+    counts: *mut Counts,
 ) -> u64 {
     let mut window = Ram::of(base, from_raw_parts(ram, ram_bytes).to_vec());
     match on(cluster, n, &Op::Census(first, pages), &mut window).0 {
@@ -145,10 +145,10 @@ pub unsafe fn a72_cluster_windows(
     n: u64,
     list: *const u8,
     list_len: usize,
-    out: *mut [u64; 3],
     base: u64,
     ram: *const u8,
     ram_bytes: usize,
+    out: *mut [u64; 3],
 ) -> u64 {
     let mut window = Ram::of(base, from_raw_parts(ram, ram_bytes).to_vec());
     window.list = from_raw_parts(list, list_len).to_vec();
@@ -174,10 +174,10 @@ pub unsafe fn a72_cluster_flip(
     va: u64,
     kind: u64,
     user: u64,
-    out: *mut [u64; 3],
     base: u64,
     ram: *mut u8,
     ram_bytes: usize,
+    out: *mut [u64; 3],
 ) -> u64 {
     if place(n).is_none() {
         return CHECK_CORE;

@@ -20,14 +20,14 @@ pub extern "C" fn a72_cluster_translate(
     core: u64,
     va: u64,
     kind: u64,
-    answer: &mut Report,
     base: u64,
     ram: &[u8],
+    answer: &mut Report,
 ) -> u64
     ensures { ClusterPromise (translate_call (kind_of kind) va) base ram.now
         handle.old.cluster.cores core result answer.old answer.new ram.now handle.new.cluster.cores }
 {
-    memory::translate(handle.cluster(), core, va, kind, answer, base, ram)
+    memory::translate(handle.cluster(), core, va, kind, base, ram, answer)
 }
 
 /// Where a data read of `va` goes.
@@ -36,14 +36,14 @@ pub extern "C" fn a72_cluster_data_pa(
     handle: &mut ClusterHandle,
     core: u64,
     va: u64,
-    answer: &mut Report,
     base: u64,
     ram: &[u8],
+    answer: &mut Report,
 ) -> u64
     ensures { ClusterPromise (DecodedCall.Known (Call.DataPa va)) base ram.now
         handle.old.cluster.cores core result answer.old answer.new ram.now handle.new.cluster.cores }
 {
-    memory::data_pa(handle.cluster(), core, va, answer, base, ram)
+    memory::data_pa(handle.cluster(), core, va, base, ram, answer)
 }
 
 /// Where a fetch of `va` goes.
@@ -52,14 +52,14 @@ pub extern "C" fn a72_cluster_fetch_pa(
     handle: &mut ClusterHandle,
     core: u64,
     va: u64,
-    answer: &mut Report,
     base: u64,
     ram: &[u8],
+    answer: &mut Report,
 ) -> u64
     ensures { ClusterPromise (DecodedCall.Known (Call.FetchPa va)) base ram.now
         handle.old.cluster.cores core result answer.old answer.new ram.now handle.new.cluster.cores }
 {
-    memory::fetch_pa(handle.cluster(), core, va, answer, base, ram)
+    memory::fetch_pa(handle.cluster(), core, va, base, ram, answer)
 }
 
 /// A load of 1, 2, 4 or 8 bytes.
@@ -69,14 +69,14 @@ pub extern "C" fn a72_cluster_load(
     core: u64,
     va: u64,
     size: u64,
-    answer: &mut Report,
     base: u64,
     ram: &[u8],
+    answer: &mut Report,
 ) -> u64
     ensures { ClusterPromise (DecodedCall.Known (Call.Load va size)) base ram.now
         handle.old.cluster.cores core result answer.old answer.new ram.now handle.new.cluster.cores }
 {
-    memory::load(handle.cluster(), core, va, size, answer, base, ram)
+    memory::load(handle.cluster(), core, va, size, base, ram, answer)
 }
 
 /// A store of the low 1, 2, 4 or 8 bytes of a value.
@@ -87,14 +87,14 @@ pub extern "C" fn a72_cluster_store(
     va: u64,
     size: u64,
     value: u64,
-    answer: &mut Report,
     base: u64,
     ram: &mut [u8],
+    answer: &mut Report,
 ) -> u64
     ensures { ClusterPromise (DecodedCall.Known (Call.Store va size value)) base ram.old
         handle.old.cluster.cores core result answer.old answer.new ram.new handle.new.cluster.cores }
 {
-    memory::store(handle.cluster(), core, va, size, value, answer, base, ram)
+    memory::store(handle.cluster(), core, va, size, value, base, ram, answer)
 }
 
 /// The instruction at `va`.
@@ -103,14 +103,14 @@ pub extern "C" fn a72_cluster_fetch(
     handle: &mut ClusterHandle,
     core: u64,
     va: u64,
-    answer: &mut Report,
     base: u64,
     ram: &[u8],
+    answer: &mut Report,
 ) -> u64
     ensures { ClusterPromise (DecodedCall.Known (Call.Fetch va)) base ram.now
         handle.old.cluster.cores core result answer.old answer.new ram.now handle.new.cluster.cores }
 {
-    memory::fetch(handle.cluster(), core, va, answer, base, ram)
+    memory::fetch(handle.cluster(), core, va, base, ram, answer)
 }
 
 /// A system operation: SYS op1, CRn, CRm, op2 with the register rt.
@@ -123,9 +123,9 @@ pub extern "C" fn a72_cluster_system(
     crm: u64,
     op2: u64,
     rt: u64,
-    answer: &mut Report,
     base: u64,
     ram: &mut [u8],
+    answer: &mut Report,
 ) -> u64
     ensures { ClusterPromise (DecodedCall.Known (Call.System (encoding_of op1 crn crm op2 rt))) base ram.old
         handle.old.cluster.cores core result answer.old answer.new ram.new handle.new.cluster.cores }
@@ -138,9 +138,9 @@ pub extern "C" fn a72_cluster_system(
         crm,
         op2,
         rt,
-        answer,
         base,
         ram,
+        answer,
     )
 }
 
@@ -227,14 +227,14 @@ pub extern "C" fn a72_cluster_census(
     core: u64,
     first: u64,
     pages: u64,
-    counts: &mut [u64; 129],
     base: u64,
     ram: &[u8],
+    counts: &mut [u64; 129],
 ) -> u64
     ensures { ClusterCensus first pages base ram.now
         handle.old.cluster.cores core result counts.old counts.new handle.new.cluster.cores }
 {
-    inspect::census(handle.cluster(), core, first, pages, counts, base, ram)
+    inspect::census(handle.cluster(), core, first, pages, base, ram, counts)
 }
 
 /// Which two windows of a list share a physical page: 0 and, in `out`, 1 and the first two by their numbers, or three
@@ -245,14 +245,14 @@ pub extern "C" fn a72_cluster_windows(
     handle: &mut ClusterHandle,
     core: u64,
     list: &[u8],
-    out: &mut [u64; 3],
     base: u64,
     ram: &[u8],
+    out: &mut [u64; 3],
 ) -> u64
     ensures { ClusterWindows list.now base ram.now
         handle.old.cluster.cores core result out.old out.new handle.new.cluster.cores }
 {
-    inspect::windows(handle.cluster(), core, list, out, base, ram)
+    inspect::windows(handle.cluster(), core, list, base, ram, out)
 }
 
 /// Which bit of a descriptor, flipped in RAM, changes how an access of a kind (1 read, 2 write, 4 fetch) ends in the
@@ -266,14 +266,14 @@ pub extern "C" fn a72_cluster_flip(
     va: u64,
     kind: u64,
     user: u64,
-    out: &mut [u64; 3],
     base: u64,
     ram: &mut [u8],
+    out: &mut [u64; 3],
 ) -> u64
     ensures { ClusterFlip va kind user base ram.old
         handle.old.cluster.cores core result out.old out.new ram.new handle.new.cluster.cores }
 {
-    inspect::flip(handle.cluster(), core, va, kind, user, out, base, ram)
+    inspect::flip(handle.cluster(), core, va, kind, user, base, ram, out)
 }
 
 /// A core is copied out, with what it has pending: 0; or 8, and nothing is written.

@@ -30,9 +30,9 @@ use Rattle.cluster.specs.contracts.Cluster.{the_row as T}
 use Rattle.cluster.proofs.Cluster.TheLaws.{the_row_laws}
 use Rattle.cluster.specs.contracts.Cluster.new as g
 use Rattle.cluster.proofs.Cluster.new.Met.{met}
-use Rattle.core_static.specs.contracts.state.a72_cluster_init_at as f
-use Rattle.core_static.proofs.state.a72_cluster_init_at.Statement.{statement}
-use Rattle.core_static.proofs.state.a72_cluster_init_at.Code as code
+use Rattle.cluster_static.specs.contracts.state.a72_cluster_init_at as f
+use Rattle.cluster_static.proofs.state.a72_cluster_init_at.Statement.{statement}
+use Rattle.cluster_static.proofs.state.a72_cluster_init_at.Code as code
 
 abbrev fresh : Cluster
 fresh = record { cores = fresh_cluster }
