@@ -68,21 +68,21 @@ chord/src/note.rt: C#
 chord/src/note.rt: Eb
 chord/src/note.rt: G#
 chord/src/story.rt: THE CHORD LOST A TONE
-trace_file/src/report.rt:  (os error 
-trace_file/src/report.rt: more than 1000000000 lines
-trace_file/src/finding.rt: COVERED, AND KEPT, AT 
-trace_file/src/finding.rt:   changed    by no line since
-a72/src/stop.rt: a stale answer
-a72/src/stop.rt: not all was looked at
-a72/src/stop.rt: a trace
-a72/src/stop.rt: no command
-a72/src/stop.rt: the proved core lost a tone of the chord
-a72/src/stop.rt: out of memory
-a72/src/stop.rt: a wrong list
-a72/src/stop.rt: windows that are not apart
+trace_source/src/report.rt:  (os error 
+trace_source/src/report.rt: more than 1000000000 lines
+audit_report/src/finding.rt: COVERED, AND KEPT, AT 
+audit_report/src/finding.rt:   changed    by no line since
+tool_call/src/stop.rt: a stale answer
+tool_call/src/stop.rt: not all was looked at
+tool_call/src/stop.rt: a trace
+tool_call/src/stop.rt: no command
+tool_call/src/stop.rt: the proved core lost a tone of the chord
+tool_call/src/stop.rt: out of memory
+tool_call/src/stop.rt: a wrong list
+tool_call/src/stop.rt: windows that are not apart
 UNSHOWN
-(cd crates && awk -v shown="$work/shown" -f ../tests/texts.awk manual_words/src/*.rt walk_report/src/*.rt census_report/src/*.rt counters_report/src/*.rt reads_report/src/*.rt ranges_report/src/*.rt windows_report/src/*.rt flip_report/src/*.rt frames_report/src/*.rt chord/src/*.rt trace_file/src/*.rt \
-    a72/src/*.rt trace_text/src/reason.rt) | grep -vxF -f "$work/unshown" >"$work/told"
+(cd crates && awk -v shown="$work/shown" -f ../tests/texts.awk manual_words/src/*.rt walk_report/src/*.rt census_report/src/*.rt counters_report/src/*.rt reads_report/src/*.rt ranges_report/src/*.rt windows_report/src/*.rt flip_report/src/*.rt frames_report/src/*.rt chord/src/*.rt cache_report/src/*.rt operation_report/src/*.rt \
+    audit_report/src/*.rt trace_source/src/*.rt tool_call/src/*.rt trace_file/src/*.rt a72/src/*.rt trace_text/src/aside.rt trace_text/src/reason.rt) | grep -vxF -f "$work/unshown" >"$work/told"
 [ ! -s "$work/told" ] && pass || { fail 'texts of the tool that no sample shows' && sed 's/^/    /' "$work/told"; }
 
 # counted_as TRACE: the rows of `a72 counters` are the levels' own and the sums of the last line of `a72 run`.

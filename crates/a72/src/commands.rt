@@ -1,13 +1,15 @@
 //! The commands.
-use crate::arguments::{Arguments, Options};
-use crate::stop::{Stop, Wrong};
-use crate::{arguments, flipped_bit, ranges, totals, usage, voice_windows};
+use crate::{flipped_bit, ranges, totals, voice_windows};
+use audit_report::auditor::Auditor;
+use audit_report::finding::Audit;
+use cache_report::Cache;
 use census_report::report::{Census, Form};
 use chord::story::Story;
 use core_calls::settings;
 use counters_report::report::Counters;
 use cpu::Core;
 use json_text::Count;
+use operation_report::show;
 use reads_report::report::Report;
 use serde::Serialize;
 use std::alloc::Global;
@@ -16,13 +18,13 @@ use std::io;
 use std::io::{Input, Write};
 use std::rt::Files;
 use tlb::access::Kind;
+use tool_call::arguments::{Arguments, Options};
+use tool_call::stop::{Stop, Wrong};
+use tool_call::{arguments, usage};
 use trace_core::cores::Cores;
 use trace_core::memory;
-use trace_file::auditor::Auditor;
-use trace_file::cache::Cache;
 use trace_file::carry::{Audited, Counted, Shown, Silent};
-use trace_file::finding::Audit;
-use trace_file::{run, show};
+use trace_file::run;
 use walk_report::explain;
 
 // A report, as text or as JSON.

@@ -1,10 +1,11 @@
 //! `a72 flip`.
-use crate::arguments::Arguments;
-use crate::stop::{Stop, Wrong};
-use crate::{arguments, commands};
+use crate::commands;
 use flip_report::report::Report;
 use std::io::{Input, Write};
 use std::rt::Files;
+use tool_call::arguments;
+use tool_call::arguments::Arguments;
+use tool_call::stop::{Stop, Wrong};
 use trace_file::carry::Silent;
 use trace_file::run;
 

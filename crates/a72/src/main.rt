@@ -2,21 +2,19 @@
 //! The tool: traces on the proved core, the pages that read most, an audit of its cache, its counters by level, one
 //! translation step by step, the bit whose flip changes one, an address space as ranges, a census of pages, windows
 //! that share a page, cycles as sample frames, and the chord.
-mod arguments;
 mod commands;
 mod flipped_bit;
 mod ranges;
-mod stop;
 mod totals;
-mod usage;
 mod voice_windows;
 
-use arguments::Arguments;
 use std::io;
 use std::io::{BufWriter, Input, IsTerminal, LineWriter, Write};
 use std::process::ExitCode;
 use std::rt::Files;
-use stop::Stop;
+use tool_call::arguments::Arguments;
+use tool_call::stop::Stop;
+use tool_call::{arguments, stop};
 
 // A call's command.
 fn command<R: Files + Input + AllocGlobal, W: Write>(

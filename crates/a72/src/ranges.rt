@@ -1,11 +1,12 @@
 //! `a72 ranges`.
-use crate::arguments::Arguments;
-use crate::stop::Stop;
-use crate::{arguments, commands};
+use crate::commands;
 use census_report::report::Refused;
 use ranges_report::report::Ranges;
 use std::io::{Input, Write};
 use std::rt::Files;
+use tool_call::arguments;
+use tool_call::arguments::Arguments;
+use tool_call::stop::Stop;
 use trace_file::carry::Silent;
 use trace_file::run;
 

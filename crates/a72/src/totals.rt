@@ -1,10 +1,11 @@
 //! `a72 frames`.
-use crate::stop::{Stop, Wrong};
-use crate::{arguments, commands};
+use crate::commands;
 use frames::Rate;
 use frames_report::Total;
 use std::alloc::Global;
 use std::io::Write;
+use tool_call::arguments;
+use tool_call::stop::{Stop, Wrong};
 
 // The rate that an argument names, in frames a second; none where it is not there.
 fn rate(word: Option<&&str>) -> Result<Option<Rate>, Stop> {

@@ -1,10 +1,11 @@
 //! `a72 windows`.
-use crate::arguments::Arguments;
-use crate::stop::Stop;
-use crate::{arguments, commands};
+use crate::commands;
 use std::io::{Input, Read, Write};
 use std::rt::Files;
 use std::{fs, io};
+use tool_call::arguments;
+use tool_call::arguments::Arguments;
+use tool_call::stop::Stop;
 use trace_file::carry::Silent;
 use trace_file::run;
 use trace_text::line::LONGEST_LIST;

@@ -1,12 +1,12 @@
 -- What the contracts of `audit` rest on: a leaf is judged as the core without a cache judges it, and what a call drops is
 -- read off its encoding or its registers.
-use Rattle.std.specs.Prelude.{if◌then◌else◌, ◌≡◌, refl, true, false, List, [], ◌∷◌, ℕ, ◌*◌, ◌/◌, ◌+◌, ◌%◌, ◌==◌, ◌≤◌, Some, Ok, Err, Bool, length, count_by}
+use Rattle.std.specs.Prelude.{if◌then◌else◌, ◌≡◌, refl, true, false, List, [], ◌∷◌, ℕ, ◌*◌, ◌/◌, ◌+◌, ◌%◌, ◌==◌, ◌≤◌, Some, Ok, Err, Bool, length}
+use Rattle.std.specs.Prelude.{count_by}
 use Rattle.std.proofs.Common.{◌∙◌, ap, sym, arith}
 use Rattle.fault.specs.First.{first}
-use Rattle.walk.specs.Regime.{bank_of, stage1_on}
+use Rattle.walk.specs.Regime.{bank_of, stage1_on, untagged}
 use Rattle.sysreg.specs.Regs.{regime_of}
 use Rattle.walk.specs.Walk.{walk_of}
-use Rattle.walk.specs.Tag.{untagged}
 use Rattle.walk.specs.Answers.{Walked}
 use Rattle.word.specs.Ram.{word_at}
 use Rattle.walk.specs.declared.{level.Leaf.Leaf}
@@ -14,7 +14,7 @@ use Rattle.sysreg.specs.declared.regs.Regime.{Regime}
 use Rattle.walk.proofs.WalkBounds.{leaf-bounds}
 use Rattle.tlb.specs.Access.{judged, user_of, flat_answer}
 use Rattle.tlb.proofs.Cells.{judged-is}
-use Rattle.tlb.specs.Entry.{entry_for}
+use Rattle.tlb.specs.Tlb.{entry_for}
 use Rattle.tlb.specs.Model.{Access, as_user, need, judge}
 use Rattle.tlb.specs.declared.{access.Kind.Kind, access.Privilege.Privilege, Inval.Inval}
 use Rattle.system.specs.Tlbi.{tlbi_of}
@@ -26,12 +26,11 @@ use Rattle.cpu.specs.declared.Core.{Core}
 use Rattle.cpu.specs.declared.call.Call.TheVariants.{System, Register}
 use Rattle.history.specs.Window.{Ram, memory_of, window_of}
 use Rattle.transparency.specs.Bare.{missed_in, op_in, operand_in, written_in, ruling_in, by_write, if_allowed}
-use Rattle.transparency.specs.Claim.{answer_by, untagged_in, uncached, drops_of}
-use Rattle.transparency.specs.Claim.{answers_of}
+use Rattle.transparency.specs.Claim.{answer_by, untagged_in, uncached, drops_of, answers_of}
 use Rattle.transparency.specs.Steps.{Step}
 use Rattle.tlb.specs.Answers.{Answer}
 use Rattle.tlb.specs.Asks.{Given}
-use Rattle.tlb.specs.Lists.{Each, done, more}
+use Rattle.tlb.specs.Live.{Each, done, more}
 use Rattle.walk_report.specs.Told.{told_by_walk, told_of, walk_told}
 use Rattle.audit.specs.Answers.{fresh_answer, given_in, listed}
 use Rattle.cluster.specs.Shared.{shared_in}

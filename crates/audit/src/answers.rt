@@ -2,9 +2,9 @@
 ghost use Rattle.std.specs.Prelude.{◌≡◌, false};
 ghost use Rattle.word.specs.Ram.{bytes_in, width_of};
 ghost use Rattle.tlb.specs.Asks.{answer_of, tlb_ask};
-ghost use Rattle.tlb.specs.Lists.{Each};
+ghost use Rattle.tlb.specs.Live.{Each};
 ghost use Rattle.cpu.specs.Bare.{bare_of};
-ghost use Rattle.cpu.specs.OpLaws.{access_now};
+ghost use Rattle.cpu.specs.Asks.{access_now};
 ghost use Rattle.history.specs.Window.{window_of};
 ghost use Rattle.transparency.specs.Claim.{access_in, answers_of, asked, sized_in, uncached};
 ghost use Rattle.audit.specs.Counting.{differ};
@@ -142,7 +142,7 @@ fn tally(core: &Core) -> Tally {
 }
 
 /// One translation by the core, whose cache moves on, and by the core without one.
-#[tactic(auto, unfolding(cpu::specs::Memory::translate_of, cpu::specs::Memory::stepped_now, cpu::specs::Memory::translate_fetch_of, cpu::specs::Memory::fetch_stepped_now, cpu::specs::Translations::translate_in, cpu::specs::Translations::translate_fetch_in, cpu::specs::Core::after_access))]
+#[tactic(auto, unfolding(cpu::specs::Memory::translate_of, cpu::specs::Memory::stepped_now, cpu::specs::Memory::translate_fetch_of, cpu::specs::Memory::fetch_stepped_now, cpu::specs::Memory::translate_in, cpu::specs::Memory::translate_fetch_in, cpu::specs::Core::after_access))]
 pub fn answer(core: &mut Core, base: u64, ram: &[u8], ask: Ask) -> Answered
     ensures ask { result.ask ≡ ask }
     ensures core { result.core ≡ answer_of (access_now core.old base ram.now) (ask_of ask) core.old.tlb }

@@ -1,6 +1,6 @@
 //! What an audit counts: the translations of each call, and those that are stale by the claim.
 ghost use Rattle.std.specs.Prelude.{◌≡◌, ◌+◌, ◌%◌, ◌^◌, ◌≤◌, cond, count_by, length};
-ghost use Rattle.tlb.specs.Lists.{Each};
+ghost use Rattle.tlb.specs.Live.{Each};
 ghost use Rattle.history.specs.Window.{window_of};
 ghost use Rattle.transparency.specs.Claim.{answers_of};
 ghost use Rattle.audit.specs.Answers.{fresh_answer, given_in, listed};

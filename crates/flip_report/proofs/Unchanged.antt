@@ -3,13 +3,12 @@ use Rattle.std.specs.Prelude.{if◌then◌else◌, ◌≡◌, ℕ, Bool, true, f
 use Rattle.std.proofs.Common.{refl, sym, ap, ◌∙◌}
 use Rattle.word.specs.Ram.{within, word_at}
 use Rattle.walk.specs.Answers.{Visited}
-use Rattle.walk.specs.Fetches.{fetches_of}
+use Rattle.walk.specs.Walk.{fetches_of}
 use Rattle.walk.specs.Order.{params_at}
-use Rattle.walk.specs.Regime.{stage1_on}
-use Rattle.walk.specs.Tag.{untagged}
-use Rattle.walk.specs.Visits.{visit_of, seen_as}
+use Rattle.walk.specs.Regime.{stage1_on, untagged}
+use Rattle.walk.specs.State.{visit_of, seen_as}
 use Rattle.walk.specs.declared.table.Visit.{Visit}
-use Rattle.walk.proofs.VisitLaws.{visit-some, visit-none}
+use Rattle.walk.proofs.Order.{visit-some, visit-none}
 use Rattle.flip.specs.Flip.{descriptors}
 use Rattle.flip.specs.declared.Question.{Question}
 use Rattle.flip_report.specs.Found.{unchanged_by, unchanged_of}

@@ -1,19 +1,18 @@
 -- A walk that ends at a level ends alike for all addresses of its block there: those with the same bits from the lowest that a table of the level
 -- looks at.
-use Rattle.std.specs.Prelude.{◌≡◌, refl, Bool, true, false, Option, None}
-use Rattle.std.specs.Prelude.{ℕ, zero, suc, ◌+◌, ◌-◌, ◌*◌, ◌/◌, ◌%◌, ◌^◌, ◌≤◌}
+use Rattle.std.specs.Prelude.{◌≡◌, refl, Bool, true, false, Option, None, ℕ, zero, suc, ◌+◌, ◌-◌, ◌*◌, ◌/◌, ◌%◌, ◌^◌, ◌≤◌}
 use Rattle.std.proofs.Common.{sym, ap, ◌∙◌, arith}
 use Rattle.std.proofs.Math.Pow.{split}
-use Rattle.word.proofs.BitLaws.{same_above}
+use Rattle.word.proofs.RamLaws.{same_above}
 use Rattle.walk.specs.Regime.{wxn_of}
 use Rattle.sysreg.specs.Regs.{single_priv}
-use Rattle.walk.specs.Table.{Fault, address_size, translation, access_flag, external_abort, Result, mapped, faults}
-use Rattle.walk.specs.Table.{in_range, startlevel, addrselectbottom, Lookup, Next, deeper, ends, first_lookup, range_of, params_of}
-use Rattle.walk.specs.Table.{table_next, leaf_translation, leaf_result, level_next, descaddr, lookup_next, walk_from, walk_range, table_walk}
+use Rattle.walk.specs.Table.{Fault, address_size, translation, access_flag, external_abort, Result, mapped, faults, in_range, startlevel}
+use Rattle.walk.specs.Table.{addrselectbottom, Lookup, Next, deeper, ends, first_lookup, range_of, params_of, table_next, leaf_translation}
+use Rattle.walk.specs.Table.{leaf_result, level_next, descaddr, lookup_next, walk_from, walk_range, table_walk}
 use Rattle.walk.specs.Walk.{walked_of, walk_of}
 use Rattle.walk.specs.WalkBounds.{Sound}
 use Rattle.walk.proofs.SizeLaws.{start-level, pa-size-low, pa-size-high}
-use Rattle.walk.proofs.WalkBounds.{next_level, table-walk-sound, walk-sound}
+use Rattle.walk.proofs.WalkBounds.{next_level, table-walk-sound, walk_sound}
 use Rattle.walk.specs.declared.{regime.Bank.Bank, range.Range.Range, level.Params.Params}
 use Rattle.sysreg.specs.declared.regs.Regime.{Regime}
 use Rattle.sysreg.specs.declared.regs.Regime.TheVariants.{El1, El2, El3}
@@ -188,4 +187,4 @@ place-ahead s r va vb memory up h = go (in_range (range_of s r va) va) refl
 
 -- a level is at most 3
 pub level-within : (s : Bank) (r : Regime) (va : ℕ) (memory : ℕ → Option ℕ) → level_of (walk_of s r va memory) ≤ 3
-level-within s r va memory = grind (arith, walk-sound s r va memory)
+level-within s r va memory = grind (arith, walk_sound s r va memory)

@@ -1,9 +1,8 @@
 -- A fresh answer with stage 1 on is the walk of the address without its tag.
 use Rattle.std.specs.Prelude.{◌≡◌, ℕ, ◌≤◌, ◌<◌, true, List, Option}
 use Rattle.std.proofs.Common.{sym, ◌∙◌, le-ltb, lt-ltb}
-use Rattle.walk.specs.Fresh.{fresh_of}
-use Rattle.walk.specs.Regime.{stage1_on}
-use Rattle.walk.specs.Tag.{untagged}
+use Rattle.walk.specs.Walk.{fresh_of}
+use Rattle.walk.specs.Regime.{stage1_on, untagged}
 use Rattle.walk.specs.declared.regime.Bank.{Bank}
 use Rattle.sysreg.specs.declared.regs.Regime.{Regime}
 use Rattle.ranges_report.specs.Place.{place_at, fresh_place, map_at, Maps}

@@ -2,10 +2,10 @@
 use Rattle.std.specs.Prelude.{◌≡◌, Bool, true, false, not, ◌||◌, ltb, ℕ, ◌+◌, ◌-◌, ◌*◌, ◌/◌, ◌%◌, ◌^◌, ◌≤◌, ◌<◌, max, min}
 use Rattle.std.proofs.Common.{ap, ◌∙◌, arith, pow_pos, ltb-true, ltb-false, le-ltb, pow_mono, pow-add}
 use Rattle.word.specs.Bits.{align_down}
-use Rattle.word.proofs.BitLaws.{join-small}
+use Rattle.word.proofs.RamLaws.{join-small}
 use Rattle.walk.specs.Table.{in_range, inputsize}
-use Rattle.walk.proofs.InRange.{in-lower, in-upper}
-use Rattle.walk.proofs.Leaves.{ones_shifted}
+use Rattle.walk.proofs.SizeLaws.{in_lower, in_upper}
+use Rattle.walk.proofs.Levels.{ones_shifted}
 use Rattle.walk.specs.declared.range.Range.{Range}
 
 -- the last address of a block has 64 bits
@@ -35,14 +35,14 @@ module _ (g : Range) (va : ℕ) where
   pub lower-window : g.upper ≡ false → in_range g va ≡ not (ltb va 0 || ltb ((2 ^ 64 - 1) / 2 ^ high) va)
   lower-window e =
       let z : ltb va 0 ≡ false = le-ltb va 0 (omega arith) in
-      in-lower g va e ∙ below-next va (2 ^ inputsize g) (pow_pos (inputsize g)) ∙ rw (last, z)
+      in_lower g va e ∙ below-next va (2 ^ inputsize g) (pow_pos (inputsize g)) ∙ rw (last, z)
 
   pub upper-window : va < 2 ^ 64 → g.upper ≡ true → in_range g va ≡ not (ltb va (2 ^ 64 - 1 - (2 ^ 64 - 1) / 2 ^ high) || ltb (2 ^ 64 - 1) va)
   upper-window h e =
       let z : ltb (2 ^ 64 - 1) va ≡ false = le-ltb (2 ^ 64 - 1) va (omega arith) in
       let p = pow_pos (inputsize g) in
       let f : 2 ^ 64 - 1 - (2 ^ 64 - 1) / 2 ^ high ≡ 2 ^ 64 - 2 ^ inputsize g = omega (arith, last) in
-      in-upper g va h e ∙ or-false (ltb va (2 ^ 64 - 2 ^ inputsize g)) ∙ rw (f, z)
+      in_upper g va h e ∙ or-false (ltb va (2 ^ 64 - 2 ^ inputsize g)) ∙ rw (f, z)
 
 -- one shifted up
 pub one-shift : (n : ℕ) → n ≤ 55 → 1 * 2 ^ n % 2 ^ 64 ≡ 2 ^ n

@@ -1,8 +1,7 @@
 // What holds of every list of ranges. The function computes nothing: its contract is the theorem.
 ghost use Rattle.std.specs.Prelude.{◌≡◌, ℕ, ◌≤◌, ◌<◌, true, List, Option};
-ghost use Rattle.walk.specs.Fresh.{fresh_of};
-ghost use Rattle.walk.specs.Regime.{stage1_on};
-ghost use Rattle.walk.specs.Tag.{untagged};
+ghost use Rattle.walk.specs.Walk.{fresh_of};
+ghost use Rattle.walk.specs.Regime.{stage1_on, untagged};
 ghost use Rattle.walk.specs.declared.regime.Bank.{Bank};
 ghost use Rattle.sysreg.specs.declared.regs.Regime.{Regime};
 ghost use Rattle.ranges_report.specs.Place.{place_at, fresh_place, map_at, Maps};

@@ -1,9 +1,10 @@
 -- What the rows of pages rest on: pages that are the same are equal, and where the row of a page stands.
-use Rattle.std.specs.Prelude.{if◌then◌else◌, ◌≡◌, refl, true, ℕ, zero, suc, ◌+◌, ◌==◌, ◌&&◌, ◌∷◌, [], ◌++◌, Bool, not, cond, List, length, map, nat_lt, Option, Some, None, is_some, slice_set, slice_index_or}
+use Rattle.std.specs.Prelude.{if◌then◌else◌, ◌≡◌, refl, true, ℕ, zero, suc, ◌+◌, ◌==◌, ◌&&◌, ◌∷◌, [], ◌++◌, Bool, not, cond, List, length, map}
+use Rattle.std.specs.Prelude.{nat_lt, Option, Some, None, is_some, slice_set, slice_index_or}
 use Rattle.std.specs.List.{list_any, position, position_or_len}
 use Rattle.std.proofs.Common.{ap, sym, ◌∙◌}
 use Rattle.std.proofs.lemmas.Bool.{eqb-true, eq-eqb, and_from}
-use Rattle.word.proofs.BitLaws.{both}
+use Rattle.word.proofs.RamLaws.{both}
 use Rattle.sysreg.specs.Regs.{index_of}
 use Rattle.sysreg.specs.declared.regs.Regime.{Regime}
 use Rattle.sysreg.specs.declared.regs.Regime.TheVariants.{El1, El2, El3}

@@ -2,8 +2,7 @@
 use Rattle.std.specs.Prelude.{◌≡◌, ℕ, ◌/◌, ◌^◌, Option, Some, None, option_map}
 use Rattle.sysreg.specs.Regs.{regime_of}
 use Rattle.sysreg.specs.declared.regs.Regime.{Regime}
-use Rattle.walk.specs.Regime.{bank_of}
-use Rattle.walk.specs.Tag.{untagged}
+use Rattle.walk.specs.Regime.{bank_of, untagged}
 use Rattle.system.specs.Decode.{decode_of}
 use Rattle.system.specs.declared.{decode.SysOp.SysOp, decode.AtForm.AtForm, decode.Encoding.Encoding}
 use Rattle.system.specs.declared.decode.SysOp.TheVariants.{At, Zva}

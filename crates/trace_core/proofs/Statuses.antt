@@ -1,33 +1,29 @@
 -- A status is a byte, of every core that its type allows: a walk's is below 24, a permission fault's is 0x0C or the
 -- level of an entry, a flat address's is 0 and an external abort's 0x10. So a call's number is below 512.
-use Rattle.std.specs.Prelude.{if◌then◌else◌, ◌≡◌, refl, true, false, Bool, List, [], ◌∷◌, length, ℕ, zero, suc, ◌^◌, ◌<◌, slice_index_or, slice_set, Option, Some, None, Ok, Err, bit_or}
+use Rattle.std.specs.Prelude.{if◌then◌else◌, ◌≡◌, refl, true, false, Bool, List, [], ◌∷◌, length, ℕ, zero, suc, ◌^◌, ◌<◌, slice_index_or, slice_set}
+use Rattle.std.specs.Prelude.{Option, Some, None, Ok, Err, bit_or}
 use Rattle.std.proofs.Common.{arith}
 use Rattle.std.proofs.lemmas.Nat.{or_of_8}
 use Rattle.fault.specs.First.{first}
 use Rattle.walk.specs.Answers.{Walked}
-use Rattle.walk.specs.Flat.{flat_by}
-use Rattle.walk.specs.Regime.{stage1_on}
+use Rattle.walk.specs.Walk.{flat_by}
+use Rattle.walk.specs.Regime.{stage1_on, untagged}
 use Rattle.sysreg.specs.Regs.{regime_of}
-use Rattle.walk.specs.Tag.{untagged}
 use Rattle.walk.specs.declared.{regime.Bank.Bank}
 use Rattle.walk.proofs.WalkBounds.{leaf-bounds, fault-status, status-small}
 use Rattle.tlb.specs.Access.{flat_answer, flat_end, judged, has_right, right_of, may_hint, user_of}
 use Rattle.tlb.specs.Answers.{Answer, Outcome}
-use Rattle.tlb.specs.Entry.{blank, entry_for, slot_of}
-use Rattle.tlb.specs.Hint.{data_slot, fetch_found, hint_for, on_page}
-use Rattle.tlb.specs.Lists.{Each, done, more}
-use Rattle.tlb.proofs.Lists.{each_set, each-getD}
+use Rattle.tlb.specs.Tlb.{blank, entry_for, slot_of, data_slot, fetch_found, hint_for, on_page, entry_at, get_of, put_of}
+use Rattle.tlb.specs.Live.{Each, done, more}
+use Rattle.tlb.proofs.Cells.{each_set, each-getD}
 use Rattle.tlb.specs.Model.{Access}
-use Rattle.tlb.specs.Tlb.{entry_at, get_of, put_of}
 use Rattle.tlb.specs.Translate.{access_of, tag_in, walked_in, looked_in, miss_in, hint_in, hint_left, tried_in, translation_in, fetch_tried, fetch_in}
 use Rattle.tlb.specs.declared.{access.Kind.Kind, access.Privilege.Privilege, entry.Entry.Entry, Tlb.Tlb}
 use Rattle.tlb.specs.declared.access.Kind.TheVariants.{Fetch}
 use Rattle.cpu.specs.Core.{bank_now}
-use Rattle.cpu.specs.Memory.{located_now, stepped_now, fetch_stepped_now}
-use Rattle.cpu.specs.Translations.{one_page, both_pages, translate_in, translate_fetch_in, located_of}
+use Rattle.cpu.specs.Memory.{located_now, stepped_now, fetch_stepped_now, one_page, both_pages, translate_in, translate_fetch_in, located_of}
 use Rattle.cpu.specs.declared.Core.{Core}
-use Rattle.cpu.specs.Answers.{Placed}
-use Rattle.cpu.specs.Place.{next_page, crosses, goes_on, placed_one, placed_both}
+use Rattle.cpu.specs.Bytes.{Placed, next_page, crosses, goes_on, placed_one, placed_both}
 use Rattle.saved.specs.Fits.{Fits}
 
 abbrev pub Byte : Answer → Type 0

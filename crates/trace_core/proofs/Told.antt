@@ -1,6 +1,7 @@
 -- A reply by its number and its value alone: of each call what a fault of it tells besides is known.
 use Rattle.std.specs.Prelude.{Ok, Err}
-use Rattle.std.proofs.Common.{◌≡◌, ℕ, zero, suc, ◌+◌, ◌%◌, ◌^◌, ◌<◌, ◌≤◌, List, length, true, false, Option, Some, None, refl, sym, ap, ◌∙◌, arith, le-ltb}
+use Rattle.std.proofs.Common.{◌≡◌, ℕ, zero, suc, ◌+◌, ◌%◌, ◌^◌, ◌<◌, ◌≤◌, List, length, true, false, Option, Some, None, refl, sym, ap, ◌∙◌, arith}
+use Rattle.std.proofs.Common.{le-ltb}
 use Rattle.std.proofs.lemmas.Bool.{ne_eqb}
 use Rattle.word.specs.declared.ram.Width.{Width}
 use Rattle.word.specs.Ram.{word_at, width_of, bytes_in}
@@ -8,13 +9,11 @@ use Rattle.fault.specs.First.{first}
 use Rattle.exception.specs.Abort.{data_abort_at, insn_abort_at}
 use Rattle.exception.specs.declared.kind.Stop.TheVariants as Stop
 use Rattle.tlb.specs.Answers.{Answer}
-use Rattle.tlb.specs.Work.{no_work}
+use Rattle.tlb.specs.Translate.{no_work}
 use Rattle.tlb.specs.declared.access.Kind.{Kind}
-use Rattle.cpu.specs.Answers.{Placed, Verdict, Got}
-use Rattle.cpu.specs.Bytes.{load_of, insn_of}
-use Rattle.cpu.specs.Ends.{failed_access, load_end, loaded_from, store_end, store_end_by, fetch_end, fetched_from}
-use Rattle.cpu.specs.Replies.{translation, reaching, loading, storing, fetching}
-use Rattle.cpu.specs.Place.{first_part, verdict_of}
+use Rattle.cpu.specs.Bytes.{Placed, Verdict, Got, load_of, insn_of, failed_access, load_end, loaded_from, store_end, store_end_by, fetch_end}
+use Rattle.cpu.specs.Bytes.{fetched_from, first_part, verdict_of}
+use Rattle.cpu.specs.Check.{translation, reaching, loading, storing, fetching}
 use Rattle.cpu.specs.declared.{call.Call.Call, call.Reply.Reply}
 use Rattle.cpu.specs.declared.call.Reply.TheVariants.{Refused, Done, Value, Faults, Fault, Stopped}
 use Rattle.tlb.specs.declared.access.Kind.TheVariants.{Read, Write}

@@ -2,7 +2,7 @@
 //! among four.
 ghost use Rattle.std.specs.Prelude.{◌≡◌, ◌%◌};
 ghost use Rattle.fault.specs.First.{first};
-ghost use Rattle.tlb.specs.Work.{no_work};
+ghost use Rattle.tlb.specs.Translate.{no_work};
 ghost use Rattle.cpu.specs.Step.{ram_after, step_of};
 ghost use Rattle.cpu.specs.Work.{step_work};
 ghost use Rattle.cluster.specs.Cluster.{four_after, four_ram, four_reply, four_work};

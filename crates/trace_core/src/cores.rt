@@ -83,6 +83,8 @@ impl Cores {
 
     /// The core of this number is spoken to from now on. A core by itself becomes the one of number 0, and three fresh
     /// ones stand beside it.
+    // Out of line: four cores that are made on the stack would stand in the frame of each line that is carried out.
+    #[inline(never)]
     pub fn speak_to(&mut self, alloc: Global, number: u64) -> Result<(), AllocError> {
         match self {
             Cores::One(core) => {

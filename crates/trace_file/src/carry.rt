@@ -1,17 +1,16 @@
 //! What a command does with each line of a trace: it is shown, carried out in silence, counted, or audited.
-use crate::auditor::Auditor;
-use crate::kept::Cause;
-use crate::report::Trouble;
-use crate::show;
-use crate::show::Outcome;
+use audit_report::auditor::Auditor;
+use audit_report::kept::Cause;
 use cpu::call::Call;
+use operation_report::show::{Form, Outcome, Seen};
 use reads_report::named;
 use reads_report::pages::Pages;
 use std::alloc::{AllocError, Global};
 use std::io;
 use std::io::Write;
 use trace_core::cores::Cores;
-use trace_core::machine::Machine;
+use trace_core::machine::{Machine, Performed};
+use trace_source::report::Trouble;
 use trace_text::expected::Expected;
 use trace_text::line::{Line, Operation, Setup};
 
@@ -57,7 +56,7 @@ pub trait Carrier {
 #[derive(Drop)]
 pub struct Shown<'a, W> {
     pub out: &'a mut W,
-    pub form: show::Form,
+    pub form: Form,
     /// as JSON, which is made here
     pub json: Option<Global>,
 }
@@ -136,14 +135,24 @@ impl<W: Write> Carrier for Shown<'_, W> {
             line.hold(0)?;
             return Ok(true);
         };
-        let performed = machine.perform(operation);
-        let outcome = Outcome::new(self.form, line.number, &operation, performed, machine);
+        let Performed { answer, reads } = machine.perform(operation);
+        let window = match self.form {
+            Form::Whole => machine.window_digest(),
+            _ => 0,
+        };
+        let seen = Seen {
+            number: machine.cores.number(),
+            core: machine.cores.spoken_to(),
+            el: machine.level(),
+            window,
+        };
+        let outcome = Outcome::new(self.form, line.number, operation, answer, reads, seen);
         match self.json {
             Some(alloc) => json_text::line(self.out, alloc, &outcome),
             None => write!(self.out, "{outcome}"),
         }
         .map_err(Trouble::Output)?;
-        line.hold(performed.reads)?;
+        line.hold(reads)?;
         Ok(true)
     }
 }

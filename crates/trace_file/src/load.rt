@@ -1,18 +1,12 @@
 //! Raw dumps: a file's bytes into the window.
-use crate::report::Trouble;
 use std::io::{Read, Seek, SeekFrom};
 use std::rt::Files;
 use std::{fs, io, str};
 use trace_core::machine::Machine;
+use trace_source::Image;
+use trace_source::report::Trouble;
 use trace_text::line::{LONGEST_WINDOW, Load, Setup};
 use trace_text::reason::{Reason, Refusal};
-
-/// A raw dump, and the physical address of its first byte.
-#[derive(Clone, Copy)]
-pub struct Image<'a> {
-    pub path: &'a str,
-    pub addr: u64,
-}
 
 // The path of a line's file, and the place that a message names.
 fn path_in(line: &[u8], from: Load) -> &str {

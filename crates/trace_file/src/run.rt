@@ -1,13 +1,13 @@
 //! A trace line by line, from a file or from standard input: checked, and then carried out as a command asks.
 use crate::carry::{Carrier, Numbered};
 use crate::load;
-use crate::load::Image;
-use crate::report::Trouble;
 use cpu::call::Call;
 use std::io::{BufRead, BufReader, Input, Read, Seek};
 use std::rt::Files;
 use std::{fs, io};
 use trace_core::machine::Machine;
+use trace_source::Trace;
+use trace_source::report::Trouble;
 use trace_text::expected::Expected;
 use trace_text::line::{Digits, LONGEST_LIST, Line, Operation};
 use trace_text::reason::{Reason, Refusal};
@@ -18,14 +18,6 @@ const LINES: u64 = 1_000_000_000;
 
 // The longest line, in bytes; so many suffice for the 65,000 that are promised.
 const LONGEST: usize = 65_520;
-
-/// Where a trace comes from: a file, or standard input where the path is `-`.
-#[derive(Clone, Copy)]
-pub struct Trace<'a> {
-    pub path: &'a str,
-    /// a raw dump, which is the window before the first line
-    pub image: Option<Image<'a>>,
-}
 
 // Reads the next line, without its end, in place of the one before it; false where there is none. One that is too long
 // is cut off behind its first byte too many.

@@ -3,6 +3,7 @@
 //! Every function takes any bytes and any words.
 pub mod answer;
 pub mod argument;
+pub mod aside;
 pub mod expected;
 pub mod lex;
 pub mod line;

@@ -1,19 +1,17 @@
 -- What an access is told: by a walk made now, and by the core.
 use Rattle.std.specs.Prelude.{if◌then◌else◌, ℕ, ◌==◌, Bool, true, false, List, Option, Some, None, Ok, Err}
-use Rattle.walk.specs.Regime.{stage1_on}
-use Rattle.walk.specs.Tag.{untagged}
+use Rattle.walk.specs.Regime.{stage1_on, untagged}
 use Rattle.walk.specs.Walk.{walk_of}
 use Rattle.walk.specs.Answers.{Walked}
 use Rattle.sysreg.specs.Regs.{regime_of}
 use Rattle.tlb.specs.Access.{flat_answer, judged, user_of}
 use Rattle.tlb.specs.Answers.{Answer}
-use Rattle.tlb.specs.Entry.{entry_for}
+use Rattle.tlb.specs.Tlb.{entry_for}
 use Rattle.tlb.specs.declared.access.Kind.{Kind}
 use Rattle.cpu.specs.Core.{bank_now}
 use Rattle.cpu.specs.Step.{step_of}
 use Rattle.cpu.specs.declared.{Core.Core, call.Reply.Reply}
 use Rattle.cpu.specs.declared.call.Call.TheVariants.{Translate}
-use Rattle.cpu.specs.declared.call.Reply.TheVariants as Reply
 use Rattle.walk_report.specs.declared.{answer.Told.Told, levels.Steps.Steps}
 use Rattle.walk_report.specs.declared.answer.Told.TheVariants.{Address, Fault, Nothing}
 

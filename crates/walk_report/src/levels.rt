@@ -1,8 +1,7 @@
 // A walk that can be shown step by step: the tables that the walk reads, and its answer.
 ghost use Rattle.std.specs.Prelude.{◌≡◌, length};
 ghost use Rattle.word.specs.Ram.{word_at};
-ghost use Rattle.walk.specs.Fetches.{fetches_of};
-ghost use Rattle.walk.specs.Walk.{walk_of};
+ghost use Rattle.walk.specs.Walk.{fetches_of, walk_of};
 ghost use Rattle.walk_report.specs.Levels.{level_at, level_of};
 
 use crate::fields::{Faulted, Rights, bit};

@@ -2,7 +2,7 @@
 use Rattle.std.proofs.Common.{◌≡◌, ap, ℕ, ◌+◌, ◌*◌, ◌<◌, ◌≤◌, ◌^◌, arith, false}
 use Rattle.word.specs.Bits.{wrap}
 use Rattle.sysreg.specs.Regs.{regime_of}
-use Rattle.tlb.specs.Fresh.{fresh_answer}
+use Rattle.tlb.specs.Translate.{fresh_answer}
 use Rattle.tlb.specs.declared.access.Kind.TheVariants.{Write}
 use Rattle.cpu.specs.Core.{bank_now}
 use Rattle.windows.specs.declared.list.Window.{Window}

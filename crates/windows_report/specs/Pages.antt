@@ -4,7 +4,7 @@ use Rattle.std.specs.List.{range_with_len}
 use Rattle.word.specs.Bits.{wrap}
 use Rattle.sysreg.specs.Regs.{regime_of}
 use Rattle.tlb.specs.Answers.{Answer}
-use Rattle.tlb.specs.Fresh.{fresh_answer}
+use Rattle.tlb.specs.Translate.{fresh_answer}
 use Rattle.tlb.specs.declared.access.Kind.TheVariants.{Write}
 use Rattle.cpu.specs.Core.{bank_now}
 use Rattle.cpu.specs.declared.Core.{Core}

@@ -1,6 +1,6 @@
 -- Each answer stands beside that of the core without a cache.
 use Rattle.std.proofs.Common.{◌∙◌, ap}
-use Rattle.tlb.specs.Lists.{done, more}
+use Rattle.tlb.specs.Live.{done, more}
 use Rattle.cpu.specs.declared.Core.{Core}
 use Rattle.history.specs.Window.{window_of}
 use Rattle.audit.proofs.Laws.{fresh-at}

@@ -4,8 +4,7 @@ use std::alloc::AllocError;
 use std::env;
 use std::io::ErrorKind;
 use std::rt::Env;
-use trace_file::load::Image;
-use trace_file::run::Trace;
+use trace_source::{Image, Trace};
 use trace_text::lex;
 use trace_text::reason::Reason;
 

@@ -1,3 +1,4 @@
+#![tactic(auto)]
 //! The cache shown whole, as a debugger shows a TLB: its live entries and its hints.
 ghost use Rattle.std.specs.Prelude.{◌≡◌, not, ◌==◌, ◌-◌, ◌^◌};
 ghost use Rattle.digest.specs.Count.{set};

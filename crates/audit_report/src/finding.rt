@@ -3,12 +3,12 @@ ghost use Rattle.std.specs.Prelude.{◌≡◌, ◌==◌, ◌||◌};
 
 use crate::auditor::Auditor;
 use crate::kept::{Cause, Kept};
-use crate::words::Aside;
 use audit::answers::Answered;
 use audit::judged::Counts;
 use json_text::{Count, Hex, Shown};
 use serde::{Described, Serialize, Serializer};
 use std::fmt;
+use trace_text::aside::Aside;
 use trace_text::line::Line;
 use walk_report::answer::{Source, Told};
 use walk_report::explain;

@@ -1,8 +1,8 @@
 -- The status that the tool ends with where a command is not carried out.
 use Rattle.std.specs.Prelude.{ℕ}
-use Rattle.a72.specs.declared.stop.Stop.{Stop}
-use Rattle.a72.specs.declared.stop.Stop.TheVariants.{NoCommand, NoSuchCommand, NoSuchOption, Usage, Argument, Trace}
-use Rattle.a72.specs.declared.stop.Stop.TheVariants.{Census, List, LongList, PastRam, NoCore, WrongList, NotApart, Stale, Unfinished, LostTone, Output, Memory}
+use Rattle.tool_call.specs.declared.stop.Stop.{Stop}
+use Rattle.tool_call.specs.declared.stop.Stop.TheVariants.{NoCommand, NoSuchCommand, NoSuchOption, Usage, Argument, Trace}
+use Rattle.tool_call.specs.declared.stop.Stop.TheVariants.{Census, List, LongList, PastRam, NoCore, WrongList, NotApart, Stale, Unfinished, LostTone, Output, Memory}
 
 -- 2 where the call is wrong, else 1
 abbrev pub status_of : Stop → ℕ

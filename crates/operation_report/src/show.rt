@@ -10,7 +10,6 @@ use digest::parts::Sum;
 use json_text::{Count, Hex, Shown};
 use serde::Serialize;
 use std::fmt;
-use trace_core::machine::{Machine, Performed};
 use trace_text::answer::Answer;
 use trace_text::line::Operation;
 
@@ -62,6 +61,19 @@ pub enum Form {
     Words,
 }
 
+/// What is seen after an operation.
+#[derive(Clone, Copy)]
+pub struct Seen<'a> {
+    /// of several cores, the number of the one that was spoken to
+    pub number: Option<u64>,
+    /// that core, if there is one of its number
+    pub core: Option<&'a Core>,
+    /// its level, as it was given
+    pub el: u64,
+    /// the digest of the window, where the form shows it
+    pub window: u64,
+}
+
 /// An operation that was carried out. Shown, it is a line, and one for each of its words.
 #[derive(Clone, Copy, Serialize)]
 pub struct Outcome {
@@ -102,13 +114,10 @@ impl Pending {
 }
 
 impl After {
-    // Of the core that is spoken to, if there is one of its number.
-    fn new(machine: &mut Machine) -> Option<Self> {
-        let ram = machine.window_digest();
-        let el = machine.level();
-        let core = machine.cores.spoken_to()?;
+    // Of a core, its level as it was given, and the digest of the window.
+    fn new(core: &Core, el: u64, window: u64) -> Self {
         let tlb = &core.tlb;
-        Some(After {
+        After {
             counters: Levels::new(&tlb.levels),
             flushes: Count(tlb.flushes),
             drops: Count(tlb.drops),
@@ -125,33 +134,30 @@ impl After {
             registers: Hex(parts::registers(core)),
             entries: Digest::new(parts::entries(core)),
             hints: Digest::new(parts::hints(core)),
-            ram: Hex(ram),
-        })
+            ram: Hex(window),
+        }
     }
 }
 
 impl Outcome {
-    /// Of the operation of a line, on the machine after it.
+    /// Of the operation of a line: its answer, what it read, and what is seen after it.
     pub fn new(
         form: Form,
         line: u64,
-        operation: &Operation,
-        performed: Performed,
-        machine: &mut Machine,
+        operation: Operation,
+        answer: Answer,
+        reads: u64,
+        seen: Seen<'_>,
     ) -> Self {
-        let Performed { answer, reads } = performed;
-        let words = match (form, machine.cores.spoken_to()) {
-            (Form::Words, Some(core)) => Some(Words::new(operation, answer, core)),
-            _ => None,
-        };
-        let core = match form {
-            Form::Whole => After::new(machine),
-            _ => None,
+        let (words, core) = match (form, seen.core) {
+            (Form::Words, Some(core)) => (Some(Words::new(&operation, answer, core)), None),
+            (Form::Whole, Some(core)) => (None, Some(After::new(core, seen.el, seen.window))),
+            _ => (None, None),
         };
         Outcome {
             line: Count(line),
-            core_number: machine.cores.number().map(Count),
-            operation: Shown::new(*operation),
+            core_number: seen.number.map(Count),
+            operation: Shown::new(operation),
             answer,
             reads: operation.reports().then_some(Count(reads)),
             words,

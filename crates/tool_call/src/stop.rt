@@ -1,7 +1,7 @@
 //! What keeps a command from being carried out, and what is said of it on standard error.
 ghost use Rattle.std.specs.Prelude.{◌≡◌};
 ghost use Rattle.std.specs.Process.{exit_status};
-ghost use Rattle.a72.specs.Status.{status_of};
+ghost use Rattle.tool_call.specs.Status.{status_of};
 
 use crate::usage;
 use census_report::report::Refused;
@@ -11,8 +11,8 @@ use std::io;
 use std::io::Write;
 use std::process::ExitCode;
 use thiserror::Error;
-use trace_file::report;
-use trace_file::report::{Message, Trouble};
+use trace_source::report;
+use trace_source::report::{Message, Trouble};
 use windows_report::refusal::Refusal;
 use windows_report::report as list;
 
