@@ -55,13 +55,9 @@ fn store_split(base: u64, ram: &mut [u8], p: Pages, n: u64, value: u64) -> Resul
 #[inline]
 pub fn store(base: u64, ram: &mut [u8], place: Place, width: Width, value: u64) -> Result<(), Outside> {
     match place {
-        Place::Whole(pa) => {
-            if ram::write(base, ram, width, pa, value) {
-                Ok(())
-            } else {
-                Err(Outside { index: 0, pa })
-            }
-        }
+        Place::Whole(pa) => ram::write(base, ram, width, pa, value)
+            .then_some(())
+            .ok_or(Outside { index: 0, pa }),
         Place::Split(p) => store_split(base, ram, p, width.bytes(), value),
     }
 }

@@ -24,6 +24,28 @@ pub(crate) fn served(core: &Core, va: u64, kind: u64, base: u64, len: u64) -> Op
     serves.then_some(hint::on_page(found.pa, va))
 }
 
+/// A data hint's place by a kind's number, 1 read or 2 write: the page is folded as it stands in the address, and its
+/// bits are cut once, with the kind's above them.
+#[inline(always)]
+fn place(va: u64, kind: u64) -> usize {
+    let folded = va ^ (va >> 5) ^ (va >> 10);
+    ((folded % 1048576 + kind / 2 % 2 * 1048576) / 4096) as usize
+}
+
+/// The same for the core of a number among four: nothing, too, where it has something pending, or the number is of no
+/// core. One condition here too, and fewer words in it, so that what is asked more costs little: the number is looked
+/// at with the level.
+#[inline(always)]
+pub fn served_among(core: &Core, n: u64, va: u64, kind: u64, base: u64, len: u64) -> Option<u64> {
+    let mark = core.privilege.unprivileged as u64;
+    let asker = core.privilege.level as u64 + mark * 256;
+    let found = hint_at(core, place(va, kind));
+    let serves = core.tlb.broadcast.is_none()
+        & (((kind == 1) | (kind == 2))
+            & ((found.key == va - va % 4096 + asker) & (((asker | n) <= 3) & (base <= u64::MAX - len))));
+    serves.then_some(hint::on_page(found.pa, va))
+}
+
 /// Where there is no fetch hint: its page is no address's.
 const NO_FETCH_HINT: FetchHint = FetchHint {
     page: 1,

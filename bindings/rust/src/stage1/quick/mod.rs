@@ -3,7 +3,7 @@
 //! serve out of line. Each gives the call's number, and in `ans` its value and what it read.
 mod at_once;
 pub mod fetch;
-pub(crate) mod hint;
+pub mod hint;
 pub(crate) mod instance;
 pub mod load;
 pub mod settings;

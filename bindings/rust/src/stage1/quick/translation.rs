@@ -158,29 +158,6 @@ pub(crate) fn kind_asked(
     }
 }
 
-#[inline(never)]
-fn address_apart<P: Purpose>(core: &mut Core, va: u64, ans: &mut Report, base: u64, ram: &[u8]) -> u64 {
-    address::<P>(core, va, ans, base, ram)
-}
-
-/// By kind, with six words to hand on.
-#[inline(always)]
-fn by_kind(core: &mut Core, va: u64, kind: u64, ans: &mut Report, base: u64, ram: &[u8]) -> u64 {
-    if kind < 2 {
-        if kind == 1 {
-            address_apart::<Reading>(core, va, ans, base, ram)
-        } else {
-            64
-        }
-    } else if kind == 2 {
-        address_apart::<Writing>(core, va, ans, base, ram)
-    } else if kind == 4 {
-        address_apart::<Fetching>(core, va, ans, base, ram)
-    } else {
-        64
-    }
-}
-
 /// The translation of va for an access of a kind: 1 read, 2 write, 4 fetch.
 #[inline]
 pub fn translate(core: &mut Core, va: u64, kind: u64, ans: &mut Report, base: u64, ram: &[u8]) -> u64 {
@@ -190,24 +167,5 @@ pub fn translate(core: &mut Core, va: u64, kind: u64, ans: &mut Report, base: u6
             0
         }
         None => kind_asked(core, va, kind, ans, base, ram),
-    }
-}
-
-/// The same for a caller whose arguments come in another order: what no hint serves is told by kind in line.
-#[inline]
-pub fn translate_by_kind(
-    core: &mut Core,
-    va: u64,
-    kind: u64,
-    ans: &mut Report,
-    base: u64,
-    ram: &[u8],
-) -> u64 {
-    match hint::served(core, va, kind, base, ram.len() as u64) {
-        Some(pa) => {
-            *ans = Report { value: pa, reads: 0 };
-            0
-        }
-        None => by_kind(core, va, kind, ans, base, ram),
     }
 }

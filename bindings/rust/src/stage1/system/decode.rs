@@ -37,9 +37,11 @@ pub enum SysOp {
 /// AT: bit 0 of op2 is set for a write, bit 1 for EL0's rights.
 #[inline]
 fn at(regime: Regime, op2: u64) -> SysOp {
-    let user = op2 & 2 != 0;
-    let write = op2 & 1 != 0;
-    SysOp::At(AtForm { regime, user, write })
+    SysOp::At(AtForm {
+        regime,
+        user: op2 & 2 != 0,
+        write: op2 & 1 != 0,
+    })
 }
 
 /// What SYS is at a level (DDI 0487, C5.3 to C5.5). EL0 has op1 3 alone; op1 0 is of EL1 and above, 4 of EL2 and
@@ -51,29 +53,26 @@ pub fn decode(level: u8, e: Encoding) -> SysOp {
     } else {
         SysOp::Unimplemented
     };
-    let Encoding {
-        op1, crn, crm, op2, ..
-    } = e;
-    match op1 {
-        3 => match (crn, crm, op2) {
+    match e.op1 {
+        3 => match (e.crn, e.crm, e.op2) {
             (7, 4, 1) => SysOp::Zva,
             (7, 5 | 10..=11 | 14, 1) => SysOp::Nothing,
             _ => refused,
         },
-        0 if 1 <= level => match (crn, crm, op2) {
+        0 if 1 <= level => match (e.crn, e.crm, e.op2) {
             (7, 1 | 5, 0) | (7, 6 | 10 | 14, 1..=2) => SysOp::Nothing,
-            (7, 8, 0..=3) => at(Regime::El1, op2),
+            (7, 8, 0..=3) => at(Regime::El1, e.op2),
             (8, _, _) => SysOp::Tlbi,
             _ => refused,
         },
-        4 if 2 <= level => match (crn, crm, op2) {
-            (7, 8, 0..=1) => at(Regime::El2, op2),
-            (7, 8, 4..=7) => at(Regime::El1, op2),
+        4 if 2 <= level => match (e.crn, e.crm, e.op2) {
+            (7, 8, 0..=1) => at(Regime::El2, e.op2),
+            (7, 8, 4..=7) => at(Regime::El1, e.op2),
             (8, _, _) => SysOp::Tlbi,
             _ => refused,
         },
-        6 if 3 <= level => match (crn, crm, op2) {
-            (7, 8, 0..=1) => at(Regime::El3, op2),
+        6 if 3 <= level => match (e.crn, e.crm, e.op2) {
+            (7, 8, 0..=1) => at(Regime::El3, e.op2),
             (8, _, _) => SysOp::Tlbi,
             _ => refused,
         },

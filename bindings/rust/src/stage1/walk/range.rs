@@ -22,9 +22,6 @@ pub struct Range {
     pub upper: bool,
 }
 
-/// Where a walk begins, or the status of the fault that keeps it from beginning.
-pub type Begin = Result<WalkState, u8>;
-
 /// The implemented size of a physical address, in bits (`ID_AA64MMFR0_EL1.PARange`).
 pub const PA_BITS: u64 = 44;
 
@@ -104,9 +101,10 @@ impl Range {
         }
     }
 
-    /// The first table, unless the address is out of range, walks are disabled or the table lies beyond the output size.
+    /// Where a walk begins: the first table, or the status of the fault that keeps it from beginning: the address is out of
+    /// range, walks are disabled or the table lies beyond the output size.
     #[inline(always)]
-    pub(crate) fn begin(self, outputsize: u64, va: u64) -> Begin {
+    pub(crate) fn begin(self, outputsize: u64, va: u64) -> Result<WalkState, u8> {
         if !self.has(va) || self.disabled {
             return Err(FSC_TRANSLATION);
         }

@@ -2,12 +2,6 @@
 //! Bit fields whose place is a variable, and small values as words. A place is taken modulo 64, as the machine's shifts
 //! take it, so that each function is total.
 
-/// Whether bit `i` of `x` is set.
-#[inline(always)]
-pub fn bit(x: u64, i: u64) -> bool {
-    x >> (i % 64) & 1 != 0
-}
-
 /// `x` with its low `n` bits clear.
 #[inline(always)]
 pub fn align_down(x: u64, n: u64) -> u64 {
