@@ -52,8 +52,8 @@ pub fn whole_core()
 {}
 
 /// An AT asks for the regime, the view and the right that its name says, each part of its form by itself: the rows of
-/// `levels_of_encodings` (system) name it by one word. Rules out an AT for a write that asks for a read's right, in code
-/// and definition alike.
+/// `levels_of_encodings` (system) name it by one word. Rules out an AT for a write that asks for a read's right, in
+/// code and definition alike.
 pub fn forms_of_translations()
     ensures form { forms_of_at }
 {}
